@@ -1,0 +1,13 @@
+// The worked examples of the rules, run as tests.
+
+#[cfg(test)]
+mod kinds;
+#[cfg(test)]
+mod shadows;
+#[cfg(test)]
+mod votes;
+
+// What a test builds could not be built.
+#[cfg(test)]
+#[derive(Debug, Drop)]
+struct Unbuilt;

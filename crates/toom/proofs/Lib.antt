@@ -1,0 +1,11 @@
+pub mod Columns
+pub mod FullLines
+pub mod Inclusions
+pub mod MachineCells
+pub mod Modular
+pub mod RowVotes
+pub mod RowWords
+pub mod Shadows
+pub mod Triangles
+pub mod Turns
+pub mod Votes

@@ -1,0 +1,10 @@
+pub mod Bit
+pub mod Inclusion
+pub mod Lines
+pub mod MachineCell
+pub mod Rows
+pub mod Shadow
+pub mod ShadowCalls
+pub mod Torus
+pub mod Triangle
+pub mod Vote
