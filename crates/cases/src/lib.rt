@@ -1,7 +1,15 @@
 // The worked examples of the rules, run as tests.
 
 #[cfg(test)]
+mod elementary;
+#[cfg(test)]
 mod kinds;
+#[cfg(test)]
+mod machine_files;
+#[cfg(test)]
+mod machines;
+#[cfg(test)]
+mod rings;
 #[cfg(test)]
 mod shadows;
 #[cfg(test)]

@@ -1,0 +1,6 @@
+pub mod Entries
+pub mod Headers
+pub mod MachineRules
+pub mod Questions
+pub mod Tables
+pub mod TuringSteps

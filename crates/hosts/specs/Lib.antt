@@ -1,0 +1,9 @@
+pub mod Digit
+pub mod Elementary
+pub mod MachineFault
+pub mod MachineFile
+pub mod MachineRule
+pub mod Refusal
+pub mod Ring
+pub mod Table
+pub mod Turing
