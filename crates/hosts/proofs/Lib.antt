@@ -1,6 +1,13 @@
 pub mod Entries
+pub mod FileBytes
+pub mod FileEntries
+pub mod FilesRead
+pub mod FilesWritten
 pub mod Headers
+pub mod MachineFiles
 pub mod MachineRules
+pub mod Machines
+pub mod Motions
 pub mod Questions
 pub mod Tables
 pub mod TuringSteps

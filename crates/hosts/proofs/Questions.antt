@@ -45,3 +45,8 @@ module _ (q : ℕ → Option Refusal) where
         | inl less ↦ asked-each n k (both .0) less
         | inr more ↦ let last : n ≡ k = omega arith in subst (λ i. q i ≡ None) last (both .1)
       ]
+
+  -- No refusal of each item is none of all.
+  pub asked-all : (n : ℕ) → ((k : ℕ) → k < n → q k ≡ None) → ask-each q n ≡ None
+  asked-all zero good = refl
+  asked-all (suc n) good = ap (λ o. orOther o (q n)) (asked-all n (λ k h. good k (omega arith))) ∙ good n (omega arith)

@@ -19,6 +19,10 @@ use Rattle.hosts.specs.Table.{Sizes, has-entry, blank, In-range, Is-blank, Use
 use Rattle.hosts.proofs.Headers.{some-state, two-symbols}
 use Rattle.hosts.proofs.Questions.{ask-none, or-none, asked-each}
 
+-- A machine that has an entry for a state and a symbol has these.
+pub has-parts : (states symbols q s : ℕ) → has-entry states symbols q s ≡ true → (1 ≤ q) × (q ≤ states) × (s < symbols)
+has-parts states symbols q s h = grind (arith, tells)
+
 -- The table is that of the file, for these numbers of states and symbols.
 pub record Filled (file : List ℕ) (table : List Entry) (states symbols : ℕ) : Type 0 where
   pub sized : Sizes states symbols
@@ -37,17 +41,11 @@ module _ (file : List ℕ) (bytes : Bytes file) (good : machine-refusal file ≡
   pub header-good : header-refusal file ≡ None
   header-good = or-none (header-refusal file) (ask-each (entry-questions file) (Q * S)) good .0
 
-  entry-good : (k : ℕ) → k < Q * S → entry-questions file k ≡ None
+  pub entry-good : (k : ℕ) → k < Q * S → entry-questions file k ≡ None
   entry-good k h = asked-each (entry-questions file) (Q * S) k (or-none (header-refusal file) (ask-each (entry-questions file) (Q * S)) good .1) h
 
   sizes : Sizes Q S
   sizes = (some-state file header-good, omega (arith, bytes 0), two-symbols file header-good, omega arith)
-
-  has-parts : (q s : ℕ) → has-entry Q S q s ≡ true → (1 ≤ q) × (q ≤ Q) × (s < S)
-  has-parts q s h =
-      let both = and-parts (leb 1 q && leb q Q) (ltb s S) h in
-      let state = and-parts (leb 1 q) (leb q Q) (both .0) in
-      (leb-true 1 q (state .0), leb-true q Q (state .1), ltb-true s S (both .1))
 
   in-range : (k : ℕ) → k < Q * S → In-range Q S (entry-in file k)
   in-range k h =
@@ -71,7 +69,7 @@ module _ (file : List ℕ) (bytes : Bytes file) (good : machine-refusal file ≡
 
     used : (i : ℕ) → Used Q S table i
     used i h =
-        let parts = has-parts (i / 16) (i % 16) h in
+        let parts = has-parts Q S (i / 16) (i % 16) h in
         let k = (i / 16 - 1) * S + i % 16 in
         let within : k < Q * S = omega (arith, mul-add-lt (i / 16 - 1) S (i % 16) Q (omega arith) (parts .2)) in
         subst (λ e. In-range Q S e) (sym (every-slot i ∙ cond-true _ (entry-in file k) blank h)) (in-range k within)
@@ -81,7 +79,7 @@ module _ (file : List ℕ) (bytes : Bytes file) (good : machine-refusal file ≡
 
     entries : (q s : ℕ) → has-entry Q S q s ≡ true → getD table (16 * q + s) blank ≡ entry-in file ((q - 1) * S + s)
     entries q s h =
-        let parts = has-parts q s h in
+        let parts = has-parts Q S q s h in
         let many = sizes in
         let row : (16 * q + s) / 16 ≡ q = omega arith in
         let column : (16 * q + s) % 16 ≡ s = omega arith in
