@@ -1,16 +1,13 @@
 -- A file with the bytes of a machine is in order, and gives that machine.
 use mathlib.Core.List.{List}
-use mathlib.Core.Path.{_≡_, refl, sym, ap, _∙_}
-use Prim.Native.Nat.{ℕ, zero, suc, _+_, _*_, _/_, _<_}
+use mathlib.Core.Path.{_≡_, sym, ap, _∙_}
+use Prim.Native.Nat.{ℕ, _+_, _*_, _/_, _<_}
 use native.Mathlib.Omega.{arith}
 use lib.ListN.{length}
 use Rattle.std.proofs.shelf.Ways.{tells}
-use Rattle.std.specs.declared.option.Option.{Option}
 use Rattle.std.specs.declared.option.Option.the-variants.{None}
-use Rattle.std.specs.Options.{orOther}
 use Rattle.hosts.specs.declared.machine.Machine.{Machine}
 use Rattle.hosts.specs.MachineFile.{states-in, symbols-in, low-byte, motion-from, entry-in, entry-questions, header-refusal, machine-refusal, Machine-in}
-use Rattle.hosts.specs.Refusal.{Refusal, ask-each}
 use Rattle.hosts.specs.Table.{motion-code}
 use Rattle.hosts.proofs.Entries.{entries-equal}
 use Rattle.hosts.proofs.FileBytes.{Coded}

@@ -1,5 +1,5 @@
 -- The machine's rule at a centre that is not foreign.
-use mathlib.Core.Bool.{Bool, true, false, cond, _&&_, not, and-false}
+use mathlib.Core.Bool.{true, false, cond, _&&_, not, and-false}
 use mathlib.Core.Logic.{_⊎_, inl, inr}
 use mathlib.Core.Path.{_≡_, sym, ap, _∙_}
 use lib.Dec.{eqb}
@@ -8,9 +8,7 @@ use Rattle.std.specs.declared.option.Option.the-variants.{Some, None}
 use Rattle.std.specs.Options.{isSome}
 use Rattle.toom.specs.declared.machine_cell.MachineCell.{MachineCell}
 use Rattle.toom.proofs.MachineCells.{cells-equal}
-use Rattle.hosts.specs.declared.entry.Entry.{Entry}
 use Rattle.hosts.specs.declared.machine.Machine.{Machine}
-use Rattle.hosts.specs.Digit.{cell}
 use Rattle.hosts.specs.MachineRule.{entry-at, entry-of, live, foreign, arriving, new-head, new-symbol, machine-rule}
 
 module _ (m : Machine) (left centre right : MachineCell) where

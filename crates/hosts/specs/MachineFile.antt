@@ -1,6 +1,6 @@
 -- The machine file: Q in the first four bits, S - 1 in the next four; then two bytes an entry, of next state 4, symbol 4, move 2 and zeros 6 bits,
 -- state 1 first, symbols rising within a state.
-use mathlib.Core.Bool.{Bool, true, cond, _&&_}
+use mathlib.Core.Bool.{true, cond, _&&_}
 use mathlib.Core.List.{List, map}
 use mathlib.Core.Path.{_≡_}
 use native.Mathlib.Omega.{arith}
@@ -101,6 +101,6 @@ pub record One-file-each : Type 0 where
   pub same : (file other : List ℕ) (m : Machine) → Bytes file → Bytes other → machine-refusal file ≡ None
       → machine-refusal other ≡ None → Machine-in file m → Machine-in other m → file ≡ other
 
--- A machine is its numbers of states and symbols and its entries: a file gives one machine.
+-- A machine is its numbers of states and symbols and its entries: a file gives at most one machine.
 abbrev pub One-machine-each : Type 0
 One-machine-each = (file : List ℕ) (m n : Machine) → Machine-in file m → Machine-in file n → m ≡ n

@@ -7,7 +7,7 @@ pub fn steps_as_turing()
     ensures { λ _. ⌜ Steps-as-Turing ⌝ }
 {}
 
-// Each machine has its one file, and each file in order gives its one machine.
+// Each machine has its one file, which is in order and gives it; a file gives at most one machine.
 pub fn files_are_machines()
     ensures files { λ _. ⌜ One-file-each ⌝ }
     ensures machines { λ _. ⌜ One-machine-each ⌝ }

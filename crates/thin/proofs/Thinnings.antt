@@ -59,7 +59,7 @@ module _ {start now : Shadow} {votes : ℕ} {text : List ℕ} (old : So-far star
   frame-here = ap (λ side. frame side (marks now)) (old .is .sides) ∙ frame-same same
 
   here-goes-on : Goes-on (now .side) (marks now) votes → Goes-on (start .side) (thinned-by votes (start .side) (marks start)) votes
-  here-goes-on on = goes-on-same same some votes (subst (λ side. Goes-on side (marks now) votes) (old .is .sides) on)
+  here-goes-on on = goes-on-same same votes (subst (λ side. Goes-on side (marks now) votes) (old .is .sides) on)
 
   -- It has not come to the limit.
   pub early : Goes-on (now .side) (marks now) votes → votes < start .side * start .side
@@ -76,7 +76,7 @@ module _ {start now : Shadow} {votes : ℕ} {text : List ℕ} (old : So-far star
     is = record {
       sides = voted .sides ∙ old .is .sides;
       places = λ r c h k. rw add-one (
-          subst (λ side. Is-shadow next side (thinned side (marks now))) (old .is .sides) voted .places r c h k ∙ thinned-same same some r c h k
+          subst (λ side. Is-shadow next side (thinned side (marks now))) (old .is .sides) voted .places r c h k ∙ thinned-same same r c h k
           );
     };
     before = below-more _ votes (old .before) (here-goes-on on);
@@ -90,7 +90,7 @@ module _ {start now : Shadow} {votes : ℕ} {text : List ℕ} (old : So-far star
   last ending ends e w = record {
     votes = votes;
     ending = ending;
-    ends = ends-same same some votes ending (subst (λ side. Ends side (marks now) votes ending) (old .is .sides) ends);
+    ends = ends-same same votes ending (subst (λ side. Ends side (marks now) votes ending) (old .is .sides) ends);
     first = old .before;
     whole = w ∙ ap (λ l. l ++ ending-line ending votes) (printed-more e);
   }

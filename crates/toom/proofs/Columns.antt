@@ -1,7 +1,7 @@
 -- The columns of a row word under and, or, a shift by one column, and of a word with one column.
-use mathlib.Core.Bool.{Bool, true, false, _&&_, _||_, and-false}
-use mathlib.Core.Path.{_≡_, refl, sym, ap, ap₂, _∙_, subst}
-use mathlib.Core.Logic.{_⊎_, inl, inr}
+use mathlib.Core.Bool.{Bool, false, _&&_, _||_}
+use mathlib.Core.Path.{_≡_, refl, sym, ap, ap₂, _∙_}
+use mathlib.Core.Logic.{inl, inr}
 use Prim.Native.Nat.{ℕ, zero, suc, _+_, _-_, _*_, _/_, _%_, _^_, _≤_, _<_}
 use native.Mathlib.Nat.{mod-lt, zero-div, div-eq-of-lt, mod-eq-of-lt, div-add-mod', mul-mod-left, mul-assoc, mul-right-comm, lt-of-lt-of-le}
 use native.Mathlib.Omega.{arith}

@@ -1,5 +1,5 @@
 -- A narrow row word is the word of its columns, and has as many ones as columns.
-use mathlib.Core.Bool.{Bool, true, false, cond}
+use mathlib.Core.Bool.{cond}
 use mathlib.Core.Path.{_≡_, refl, sym, ap, ap₂, _∙_}
 use Prim.Native.Nat.{ℕ, zero, suc, _+_, _-_, _*_, _/_, _%_, _^_, _≤_, _<_}
 use native.Mathlib.Nat.{mod-lt, div-eq-of-lt, div-add-mod', add-mul, mul-assoc, mul-comm, zero-mul, one-mul, add-zero, pow-suc}

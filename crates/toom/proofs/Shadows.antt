@@ -1,10 +1,9 @@
 -- A shadow by its rows: their counts and words are those of its marks, and the marks determine it.
 use mathlib.Core.Bool.{Bool, cond}
 use mathlib.Core.HLevel.{isProp→PathP, ×-prop, Π-prop}
-use mathlib.Core.List.{List}
-use mathlib.Core.Logic.{_⊎_, inl, inr}
-use mathlib.Core.Path.{_≡_, sym, ap, ap₂, _∙_, subst}
-use Prim.Native.Nat.{ℕ, _+_, _-_, _%_, _^_, _≤_, _<_}
+use mathlib.Core.Logic.{inl, inr}
+use mathlib.Core.Path.{_≡_, sym, ap, ap₂, _∙_}
+use Prim.Native.Nat.{ℕ, _+_, _-_, _^_, _≤_, _<_}
 use native.Mathlib.Bridge.{le-prop}
 use native.Mathlib.Nat.{ℕ-set}
 use native.Mathlib.Numerals.{add-one}
@@ -15,7 +14,7 @@ use Rattle.std.proofs.shelf.Counted.{fill-by-all}
 use Rattle.std.proofs.shelf.Lists.{ext-getD, getD-take, length-take-le}
 use Rattle.std.proofs.shelf.Tests.{cases-lt}
 use Rattle.toom.specs.declared.shadow.Shadow.{Shadow}
-use Rattle.toom.specs.Rows.{Side, Narrow, column, row-word}
+use Rattle.toom.specs.Rows.{Side, Narrow, row-word}
 use Rattle.toom.specs.Shadow.{marks, words-of, Is-shadow, Marks-pin}
 use Rattle.toom.specs.Torus.{Plane, total}
 use Rattle.toom.proofs.RowWords.{total-same, word-is, ones-are}

@@ -20,8 +20,8 @@ pub record Lines-stay : Type 0 where
   pub columns : (side : ℕ) (shadow : Plane Bool) (c : ℕ) → Full-column side shadow c
       → (j : ℕ) → Full-column side (thinned-by j side shadow) c
 
--- So a triangle shrinks only if its side is below the side of the torus: row 0 alone lies in the triangle of that side at (0, 0), and after
--- any number of votes in none that is smaller, wherever its corner.
+-- So a triangle need not shrink if its side is that of the torus: some shadow, as row 0 alone, lies in the triangle of that side at (0, 0), and
+-- after any number of votes in none that is smaller, wherever its corner.
 abbrev pub Bound-is-sharp : Type 0
 Bound-is-sharp =
     (side : ℕ)

@@ -1,15 +1,14 @@
--- The shadow as a plane of bits: its marked places, and what each call does to them.
-use mathlib.Core.Bool.{Bool, true, false, cond, _||_, _&&_}
-use mathlib.Core.List.{List, _++_, map}
+-- The shadow as a plane of bits: its marked places, which determine it.
+use mathlib.Core.Bool.{Bool, false, _||_, _&&_}
+use mathlib.Core.List.{List, map}
 use mathlib.Core.Path.{_≡_}
-use Prim.Native.Nat.{ℕ, _≤_, _<_}
+use Prim.Native.Nat.{ℕ, _<_}
 use lib.Dec.{eqb}
-use lib.ListN.{getD, length, drop}
+use lib.ListN.{getD}
 use Rattle.std.specs.Iters.{counting}
 use Rattle.toom.specs.declared.shadow.Shadow.{Shadow}
-use Rattle.toom.specs.Rows.{Side, column, row-word}
+use Rattle.toom.specs.Rows.{column, row-word}
 use Rattle.toom.specs.Torus.{Plane, Everywhere}
-use Rattle.toom.specs.Vote.{thinned}
 
 -- Whether the place is in the shadow.
 abbrev pub marks : Shadow → Plane Bool

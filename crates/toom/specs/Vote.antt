@@ -1,5 +1,5 @@
 -- Toom's vote of a place, and of a whole plane.
-use mathlib.Core.Bool.{Bool, true, false, cond, Bool·beq}
+use mathlib.Core.Bool.{Bool, false, cond, Bool·beq}
 use mathlib.Core.Path.{_≡_}
 use Prim.Native.Nat.{ℕ, zero, suc, _+_, _≤_}
 use Rattle.toom.specs.Torus.{Plane, next, Everywhere}

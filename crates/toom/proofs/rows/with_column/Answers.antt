@@ -1,10 +1,9 @@
-use mathlib.Core.Bool.{Bool, true, false, _&&_, _||_, and-true}
-use mathlib.Core.Path.{_≡_, refl, sym, ap, _∙_, subst}
+use mathlib.Core.Bool.{_||_, and-true}
+use mathlib.Core.Path.{_≡_, sym, ap, _∙_, subst}
 use Prim.Native.Nat.{_-_, _*_, _%_, _^_, _≤_}
 use native.Mathlib.Nat.{mod-eq-of-lt}
 use native.Mathlib.Omega.{arith}
 use lib.Dec.{eqb}
-use lib.Bits.{bitOr}
 use Rattle.toom.specs.Rows.{column, Narrow}
 use Rattle.toom.proofs.Columns.{column-or, narrow-or, column-one, narrow-one, one-below}
 use Rattle.toom.proofs.rows.with_column.Needs as need

@@ -1,4 +1,3 @@
-use mathlib.Core.Path.{_≡_}
 use native.Mathlib.Omega.{arith}
 use Rattle.hosts.proofs.Tables.{filled}
 use Rattle.hosts.proofs.machine.Machine.read.Needs as need

@@ -1,11 +1,11 @@
-use mathlib.Core.Bool.{Bool, false}
+use mathlib.Core.Bool.{false}
 use mathlib.Core.Path.{_≡_, refl, sym, ap, _∙_, subst}
-use mathlib.Core.Logic.{_⊎_, inl, inr}
-use Prim.Native.Nat.{ℕ, _-_, _^_, _/_, _%_}
+use mathlib.Core.Logic.{inl, inr}
+use Prim.Native.Nat.{ℕ, _-_, _^_, _%_}
 use native.Mathlib.Nat.{zero-mod, zero-div}
 use native.Mathlib.Omega.{arith}
 use lib.Dec.{eqb}
-use lib.ListN.{getD, replicate, length-replicate}
+use lib.ListN.{getD, replicate}
 use Rattle.std.proofs.shelf.Lists.{getD-replicate, getD-past}
 use Rattle.std.proofs.shelf.Tests.{cases-lt}
 use Rattle.toom.specs.Rows.{column, Narrow}
