@@ -9,5 +9,6 @@ pub mod MachineRules
 pub mod Machines
 pub mod Motions
 pub mod Questions
+pub mod Rings
 pub mod Tables
 pub mod TuringSteps

@@ -20,22 +20,7 @@ use Rattle.hosts.specs.MachineRule.{entry-at, live, foreign, entry-of, moving,
 use Rattle.hosts.specs.Ring.{left-of, right-of, stepped}
 use Rattle.hosts.specs.Table.{motion-code}
 use Rattle.hosts.specs.Turing.{moved, turing-step, ring-of, configuration, Steps-as-Turing}
-
-left-below : (n i : ℕ) → i < n → left-of n i < n
-left-below n zero i< = omega arith
-left-below n (suc i) i< = omega arith
-
-right-below : (n i : ℕ) → i < n → right-of n i < n
-right-below n i i< = grind (arith, tells)
-
--- A step to one side takes a head from p to i if the place on the other side of i is p.
-left-lands : (n i p : ℕ) → i < n → p < n → eqb (right-of n i) p ≡ eqb i (left-of n p)
-left-lands n i zero i< p< = grind (arith, tells)
-left-lands n i (suc p) i< p< = grind (arith, tells)
-
-right-lands : (n i p : ℕ) → i < n → p < n → eqb (left-of n i) p ≡ eqb i (right-of n p)
-right-lands n zero p i< p< = grind (arith, tells)
-right-lands n (suc i) p i< p< = grind (arith, tells)
+use Rattle.hosts.proofs.Rings.{left-below, right-below, left-lands, right-lands}
 
 -- The option if the test holds, else none.
 abbrev when : Bool → Option Entry → Option Entry

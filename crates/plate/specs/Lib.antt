@@ -1,0 +1,17 @@
+pub mod BeatCall
+pub mod Board
+pub mod Faults
+pub mod Healing
+pub mod History
+pub mod LayCall
+pub mod Layout
+pub mod MapCall
+pub mod Members
+pub mod Painted
+pub mod Plain
+pub mod PlaneQuestion
+pub mod Plates
+pub mod ReadCall
+pub mod ShadowCall
+pub mod StrikeCall
+pub mod Sweep

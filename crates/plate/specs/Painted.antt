@@ -1,0 +1,18 @@
+-- Runs of equal cells written into memory.
+use mathlib.Core.List.{List}
+use mathlib.Core.Logic.{_⊎_}
+use mathlib.Core.Path.{_≡_}
+use Prim.Native.Nat.{ℕ, _+_, _*_, _≤_, _<_}
+use lib.ListN.{getD}
+use Rattle.std.specs.declared.option.Option.{Option}
+use Rattle.std.specs.declared.option.Option.the-variants.{Some}
+
+-- `count` cells from `from` on are this cell, the others as they were.
+pub record Painted {C : Type 0} (from count : ℕ) (cell : C) (before after : List C) : Type 0 where
+  pub inside : (j : ℕ) (d : C) → j < count → getD after (from + j) d ≡ cell
+  pub outside : (k : ℕ) (d : C) → (k < from) ⊎ (from + count ≤ k) → getD after k d ≡ getD before k d
+
+-- n blocks of w cells from `from` on, each of the cell that its byte of the tape names, the others as they were.
+pub record Blocks-painted {C : Type 0} (named : ℕ → Option C) (from n w : ℕ) (tape : List ℕ) (before after : List C) : Type 0 where
+  pub inside : (i j : ℕ) (d : C) → i < n → j < w → Some (getD after (from + (i * w + j)) d) ≡ named (getD tape i 0)
+  pub outside : (k : ℕ) (d : C) → (k < from) ⊎ (from + n * w ≤ k) → getD after k d ≡ getD before k d

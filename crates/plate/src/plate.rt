@@ -1,0 +1,10 @@
+// The plate: cells that its maker hands in, and what it keeps beside them once it is laid.
+use crate::laid::Laid;
+
+pub mod calls;
+mod moves;
+
+pub struct Plate<'a, C> {
+    cells: &'a mut [C],
+    laid: Option<Laid>,
+}
