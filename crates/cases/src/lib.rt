@@ -9,6 +9,10 @@ mod machine_files;
 #[cfg(test)]
 mod machines;
 #[cfg(test)]
+mod plate_refusals;
+#[cfg(test)]
+mod plates;
+#[cfg(test)]
 mod rings;
 #[cfg(test)]
 mod shadows;

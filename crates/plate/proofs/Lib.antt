@@ -10,6 +10,11 @@ pub mod Layings
 pub mod Majorities
 pub mod MajoritiesMeet
 pub mod Paints
+pub mod PinnedCells
+pub mod PinnedEffects
+pub mod PinnedFaults
+pub mod PinnedLaid
+pub mod Pins
 pub mod Places
 pub mod PlaneParts
 pub mod Quiet

@@ -3,12 +3,11 @@ use mathlib.Core.Bool.{Bool, true, false, cond}
 use mathlib.Core.List.{List, [], _∷_}
 use mathlib.Core.Logic.{inl, inr}
 use mathlib.Core.Path.{_≡_, sym, ap, _∙_}
-use Prim.Native.Nat.{ℕ, _+_, _*_, _≤_, _<_}
+use Prim.Native.Nat.{_+_, _*_, _≤_, _<_}
 use native.Mathlib.Omega.{arith}
-use lib.Dec.{ltb}
 use lib.ListN.{length}
 use Rattle.std.proofs.shelf.Sums.{sumBy-cons}
-use Rattle.std.proofs.shelf.Tests.{both-ways, cases-bool, cond-both, cond-false, lt-ltb, ltb-true}
+use Rattle.std.proofs.shelf.Tests.{both-ways, cases-bool, cond-both}
 use Rattle.std.specs.declared.option.Option.the-variants.{Some}
 use Rattle.plate.specs.ReadCall.{holders, majority-of}
 use Rattle.plate.proofs.Majorities.{majority-some}

@@ -5,7 +5,7 @@ use Prim.Native.Nat.{ℕ, zero, suc, _+_, _-_, _*_, _≤_, _<_}
 use native.Mathlib.Nat.{mul-le-mul-right}
 use native.Mathlib.Omega.{arith}
 use lib.Dec.{eqb}
-use Rattle.std.proofs.shelf.Tests.{cond-true, cond-false, cond-both, cases-lt, eq-eqb, ne-eqb, eqb-false}
+use Rattle.std.proofs.shelf.Tests.{cond-true, cond-false, cases-lt, eq-eqb, ne-eqb}
 use Rattle.hosts.specs.Ring.{left-of, right-of}
 use Rattle.plate.proofs.Grids.{one-place, last-block}
 

@@ -8,6 +8,7 @@ pub mod Layout
 pub mod MapCall
 pub mod Members
 pub mod Painted
+pub mod Pins
 pub mod Plain
 pub mod PlaneQuestion
 pub mod Plates

@@ -1,6 +1,6 @@
 -- The plain machine: fed with the calls and their acceptance alone, it keeps the shape, the faultless run and the shadow. It never sees a copy.
 use mathlib.Core.Bool.{Bool, true, false}
-use mathlib.Core.List.{List, [], _∷_}
+use mathlib.Core.List.{[], _∷_}
 use Prim.Native.Nat.{ℕ}
 use lib.ListN.{getD}
 use Rattle.std.specs.declared.option.Option.{Option}

@@ -1,5 +1,4 @@
 -- Shadow: its questions, and what it writes.
-use mathlib.Core.Bool.{Bool}
 use mathlib.Core.List.{List, _++_}
 use mathlib.Core.Path.{_≡_}
 use Prim.Native.Nat.{ℕ}

@@ -1,14 +1,13 @@
 // The questions of lay and strike that need no plate: they are of the shape and the kind alone.
 ghost use mathlib.Core.Path.{_≡_};
 ghost use Prim.Native.Nat.{_≤_};
-ghost use lib.ListN.{length, getD};
+ghost use lib.ListN.{length};
 ghost use Rattle.std.specs.declared.option.Option.the-variants.{Some, None};
-ghost use Rattle.std.specs.Options.{isSome};
 ghost use Rattle.std.specs.Results.{Cases};
 ghost use Rattle.toom.specs.Shadow.{Is-shadow, no-marks};
-ghost use Rattle.hosts.specs.Refusal.{ask, ask-each};
+ghost use Rattle.hosts.specs.Refusal.{ask-each};
 ghost use Rattle.plate.specs.Faults.{lay-fault, strike-fault};
-ghost use Rattle.plate.specs.LayCall.{lay-refusal, tape-questions, lay-questions};
+ghost use Rattle.plate.specs.LayCall.{tape-questions, lay-questions};
 ghost use Rattle.plate.specs.Layout.{size-of};
 ghost use Rattle.plate.specs.StrikeCall.{place-questions};
 use crate::fault::LayFault;

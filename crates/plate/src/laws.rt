@@ -1,5 +1,6 @@
-// The healing laws of every plate, as the contract of a function that does nothing.
+// The healing laws of every plate, and that each outcome pins its end, as the contracts of functions that do nothing.
 ghost use Rattle.plate.specs.Healing.{Always-heals};
+ghost use Rattle.plate.specs.Pins.{Outcomes-pin, Faults-pin};
 ghost use Rattle.plate.specs.Plates.{members};
 use toom::kind::Kind;
 
@@ -7,4 +8,10 @@ use toom::kind::Kind;
 // faultless run's, a shadow in a triangle shrinks with each beat, and a shadow of fewer than half of the places does not harm the reading.
 pub fn always_heals<C: Kind>()
     ensures { λ _. ⌜ Always-heals (members equal byteOf cellOf) ⌝ }
+{}
+
+// Each call's outcome settles its end: the answer, every cell, the state and every output element.
+pub fn outcomes_pin<C: Kind>()
+    ensures ends { λ _. ⌜ Outcomes-pin (members equal byteOf cellOf) ⌝ }
+    ensures faults { λ _. ⌜ Faults-pin ⌝ }
 {}

@@ -4,6 +4,7 @@ use crate::laid::Laid;
 pub mod calls;
 mod moves;
 
+#[derive(Drop)]
 pub struct Plate<'a, C> {
     cells: &'a mut [C],
     laid: Option<Laid>,

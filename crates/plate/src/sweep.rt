@@ -1,5 +1,4 @@
 // Sweeps over a plate's cells: each reads one part of the memory and writes another.
-ghost use mathlib.Core.Path.{_≡_};
 ghost use Prim.Native.Nat.{_+_, _*_, _≤_};
 ghost use lib.ListN.{length};
 ghost use Rattle.toom.specs.Rows.{Side};

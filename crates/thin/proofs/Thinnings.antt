@@ -49,7 +49,6 @@ pub record So-far (start now : Shadow) (votes : ℕ) (text : List ℕ) : Type 0 
   pub within : votes ≤ start .side * start .side
 
 module _ {start now : Shadow} {votes : ℕ} {text : List ℕ} (old : So-far start now votes text) where
-
   same : Same (start .side) (marks now) (thinned-by votes (start .side) (marks start))
   same = old .is .places
 

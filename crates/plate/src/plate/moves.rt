@@ -1,7 +1,7 @@
 // What each call on a plate does: asks its questions in order, and only then writes.
 ghost use denote.Ref.{name};
 ghost use mathlib.Core.Path.{_≡_};
-ghost use Prim.Native.Nat.{_≤_, _<_};
+ghost use Prim.Native.Nat.{_<_};
 ghost use lib.ListN.{length, set};
 ghost use Rattle.plate.specs.Board.{standing};
 ghost use Rattle.plate.specs.Faults.{lay-fault, strike-fault, beat-fault, read-fault, map-fault, shadow-fault};

@@ -1,4 +1,3 @@
-use native.Mathlib.Omega.{arith}
 use mathlib.Core.Path.{_∙_}
 use Rattle.plate.proofs.Layings.{cells-laid}
 use Rattle.plate.proofs.laying.lay_cells.Needs as need
