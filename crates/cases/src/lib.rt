@@ -1,4 +1,4 @@
-// The worked examples of the rules, run as tests.
+// The worked examples of the rules, run as tests, and what a user of the library can prove through its contracts alone.
 
 #[cfg(test)]
 mod elementary;
@@ -8,6 +8,7 @@ mod kinds;
 mod machine_files;
 #[cfg(test)]
 mod machines;
+pub mod over;
 #[cfg(test)]
 mod plate_refusals;
 #[cfg(test)]

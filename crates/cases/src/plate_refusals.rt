@@ -1,4 +1,4 @@
-// What a plate refuses, in which order, and that a refusal leaves all as it was.
+// What a plate refuses, in which order, and that a refusal leaves the plate and the output as they were.
 use crate::Unbuilt;
 use hosts::elementary::Elementary;
 use hosts::elementary::ElementaryHost;
@@ -38,7 +38,7 @@ fn a_bare_plate_refuses_all_but_lay() -> Result<(), Fail> {
     check_eq(plate.shadow(&mut []), Err(ShadowFault::Bare))
 }
 
-// Each question of lay, with every later one failing too.
+// Each question of lay, with a later one failing too.
 #[test]
 fn lay_asks_in_order() -> Result<(), Fail> {
     let mut cells = [Bit::Zero; 10];
@@ -95,10 +95,40 @@ fn a_laid_plate_asks_in_order() -> Result<(), Fail> {
     check_eq(plate.strike(1, 2, 0, 2), Err(StrikeFault::Place))?;
     check_eq(plate.strike(1, 0, 2, 2), Err(StrikeFault::Place))?;
     check_eq(plate.strike(1, 1, 1, 2), Err(StrikeFault::Byte))?;
-    check_eq(plate.read(&mut [0]), Err(ReadFault::Output))?;
-    check_eq(plate.map(&mut [0; 3]), Err(MapFault::Output))?;
-    check_eq(plate.shadow(&mut [0]), Err(ShadowFault::Output))?;
-    let mut rows = [1; 2];
+    let mut bytes = [7];
+    check_eq(plate.read(&mut bytes), Err(ReadFault::Output))?;
+    check_eq(bytes, [7])?;
+    let mut counts = [7; 3];
+    check_eq(plate.map(&mut counts), Err(MapFault::Output))?;
+    check_eq(counts, [7; 3])?;
+    let mut word = [7];
+    check_eq(plate.shadow(&mut word), Err(ShadowFault::Output))?;
+    check_eq(word, [7])?;
+    let mut rows = [7; 2];
     plate.shadow(&mut rows)?;
     check_eq(rows, [0, 0])
+}
+
+// The last beat is the one that brings the age to 1,048,575.
+#[test]
+fn the_greatest_age() -> Result<(), Fail> {
+    let mut cells = [Bit::Zero; 10];
+    let mut plate = Plate::new(&mut cells);
+    plate.lay(1, 2, &[1])?;
+    let host = Elementary { rule: 0x80 };
+    for _ in 0..1_048_575 {
+        plate.beat(&host)?;
+    }
+    check_eq(plate.beat(&host), Err(BeatFault::Age))?;
+    let mut out = [0];
+    plate.read(&mut out)?;
+    check_eq(out, [1])
+}
+
+#[test]
+fn the_most_planes() -> Result<(), Fail> {
+    let mut cells = [Bit::Zero; 40_960];
+    let mut plate = Plate::new(&mut cells);
+    check_eq(plate.lay(4096, 2, &[1; 4096]), Ok(()))?;
+    check_eq(plate.lay(4097, 2, &[1; 4097]), Err(LayFault::Planes))
 }

@@ -10,6 +10,7 @@ pub mod Layings
 pub mod Majorities
 pub mod MajoritiesMeet
 pub mod Paints
+pub mod PinnedAnswers
 pub mod PinnedCells
 pub mod PinnedEffects
 pub mod PinnedFaults

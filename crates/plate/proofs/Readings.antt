@@ -13,8 +13,7 @@ use Rattle.std.specs.Iters.{counting}
 use Rattle.std.specs.Options.{isSome, mapped, valueOr}
 use Rattle.hosts.specs.Refusal.{ask}
 use Rattle.plate.specs.Board.{plane-of}
-use Rattle.plate.specs.PlaneQuestion.{plane-question}
-use Rattle.plate.specs.ReadCall.{majority-of, read-refusal}
+use Rattle.plate.specs.ReadCall.{plane-question, majority-of, read-refusal}
 
 -- A list that is f of each index up to i, the rest as it was: one index more.
 pub written-more : {X : Type 0} (f : ℕ → X) (old : List X) (i : ℕ) (d x : X) → i < length old → x ≡ f i

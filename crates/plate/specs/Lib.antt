@@ -10,7 +10,6 @@ pub mod Members
 pub mod Painted
 pub mod Pins
 pub mod Plain
-pub mod PlaneQuestion
 pub mod Plates
 pub mod ReadCall
 pub mod ShadowCall

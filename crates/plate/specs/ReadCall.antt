@@ -31,11 +31,15 @@ majority-of equal cells = majority-among equal cells cells
 abbrev pub read-refusal : (number place : ℕ) → Refusal
 read-refusal number place = record { number = number; word = codes "read"; place = place }
 
+-- Has plane i a cell that more than half of its copies are?
+abbrev pub plane-question : {C : Type 0} → (C → C → Bool) → (cells : List C) → (side i : ℕ) → Option Refusal
+plane-question equal cells side i = ask (isSome (majority-of equal (plane-of cells side i))) (read-refusal 16 i) None
+
 abbrev pub read-questions-of : {C : Type 0} → (C → C → Bool) → Option Laid → (cells : List C) → (room : ℕ) → Option Refusal
 read-questions-of equal None cells room = Some (read-refusal 6 0)
 read-questions-of equal (Some l) cells room =
     ask (leb (l .planes) room) (read-refusal 15 0)
-    (ask-each (λ i. ask (isSome (majority-of equal (plane-of cells (side-of l) i))) (read-refusal 16 i) None) (l .planes))
+    (ask-each (plane-question equal cells (side-of l)) (l .planes))
 
 -- `room` is the length of the output.
 abbrev pub read-questions : {C : Type 0} → (C → C → Bool) → Board C → (room : ℕ) → Option Refusal

@@ -1,6 +1,6 @@
 // The healing laws of every plate, and that each outcome pins its end, as the contracts of functions that do nothing.
 ghost use Rattle.plate.specs.Healing.{Always-heals};
-ghost use Rattle.plate.specs.Pins.{Outcomes-pin, Faults-pin};
+ghost use Rattle.plate.specs.Pins.{Outcomes-pin, Answers-pin, Faults-pin};
 ghost use Rattle.plate.specs.Plates.{members};
 use toom::kind::Kind;
 
@@ -13,5 +13,6 @@ pub fn always_heals<C: Kind>()
 // Each call's outcome settles its end: the answer, every cell, the state and every output element.
 pub fn outcomes_pin<C: Kind>()
     ensures ends { λ _. ⌜ Outcomes-pin (members equal byteOf cellOf) ⌝ }
+    ensures answers { λ _. ⌜ Answers-pin (members equal byteOf cellOf) ⌝ }
     ensures faults { λ _. ⌜ Faults-pin ⌝ }
 {}

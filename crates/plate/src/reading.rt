@@ -6,8 +6,7 @@ ghost use lib.ListN.{length, take, drop};
 ghost use Rattle.std.specs.Options.{mapped};
 ghost use Rattle.hosts.specs.Refusal.{ask-each};
 ghost use Rattle.plate.specs.Layout.{size-of};
-ghost use Rattle.plate.specs.PlaneQuestion.{plane-question};
-ghost use Rattle.plate.specs.ReadCall.{read-refusal, reading};
+ghost use Rattle.plate.specs.ReadCall.{plane-question, read-refusal, reading};
 use crate::majority::majority;
 use toom::kind::Kind;
 

@@ -20,7 +20,8 @@ impl<'a, C: Kind> Plate<'a, C> {
     // A bare plate over these cells, none of which it touches.
     pub fn new(cells: &'a mut [C]) -> Plate<'a, C>
         ensures reached { λ r. ⌜ Reached (members equal byteOf cellOf) [] (board r) ⌝ }
-        ensures same { λ r. ⌜ now (r .cells) ≡ now (cells .entry) ⌝ }
+        ensures cells { λ r. ⌜ now (r .cells) ≡ now (cells .entry) ⌝ }
+        ensures same { λ r. ⌜ name (r .cells) ≡ name (cells .entry) ⌝ }
     {
         Plate { cells, laid: None }
     }

@@ -1,6 +1,6 @@
 use native.Mathlib.Omega.{arith}
 use Rattle.hosts.proofs.Questions.{asked-more, asked-first}
-use Rattle.plate.specs.PlaneQuestion.{plane-question}
+use Rattle.plate.specs.ReadCall.{plane-question}
 use Rattle.plate.proofs.PlaneParts.{next-start, ends-within}
 use Rattle.plate.proofs.Readings.{whole, split}
 use Rattle.plate.proofs.reading.first_split.Needs as need

@@ -2,7 +2,7 @@ use mathlib.Core.Path.{_≡_}
 use Prim.Native.Nat.{_*_}
 use Rattle.std.specs.declared.option.Option.the-variants.{None}
 use Rattle.hosts.specs.Refusal.{ask-each}
-use Rattle.plate.specs.PlaneQuestion.{plane-question}
+use Rattle.plate.specs.ReadCall.{plane-question}
 use Rattle.plate.proofs.reading.first_split.Given as given
 
 abbrev pub Inv-loop-i : given.InvT-loop-i

@@ -6,9 +6,8 @@ use Rattle.std.specs.declared.option.Option.the-variants.{Some, None}
 use Rattle.std.specs.Options.{mapped}
 use Rattle.hosts.specs.Refusal.{ask-each}
 use Rattle.plate.specs.Board.{standing, side-of}
-use Rattle.plate.specs.PlaneQuestion.{plane-question}
 use Rattle.plate.specs.Plates.{board}
-use Rattle.plate.specs.ReadCall.{read-questions-of, read-refusal, reading}
+use Rattle.plate.specs.ReadCall.{plane-question, read-questions-of, read-refusal, reading}
 use Rattle.plate.proofs.plate.Plate.try_read.Needs as need
 
 pub returns : need.returns
