@@ -4,7 +4,7 @@ use hosts::host::Host;
 use toom::kind::Kind;
 
 // The ring after one step.
-pub fn step<C: Kind, H: Host<C>, const N: usize>(
+pub(crate) fn step<C: Kind, H: Host<C>, const N: usize>(
     host: &H,
     ring: [u8; N],
 ) -> Result<[u8; N], Unbuilt> {

@@ -1,33 +1,16 @@
--- Runs and blocks of equal cells, one more at a time.
+-- Blocks of equal cells, one more at a time.
 use mathlib.Core.List.{List}
-use mathlib.Core.Logic.{_⊎_, inl, inr, _≢_}
+use mathlib.Core.Logic.{_⊎_, inl, inr}
 use mathlib.Core.Path.{_≡_, sym, ap, _∙_}
 use Prim.Native.Nat.{ℕ, _+_, _*_, _≤_, _<_}
 use native.Mathlib.Nat.{add-mul, one-mul}
 use native.Mathlib.Omega.{arith}
-use lib.ListN.{length, getD, set}
-use Rattle.std.proofs.shelf.Lists.{getD-set-same, getD-set-other}
+use lib.ListN.{getD}
 use Rattle.std.proofs.shelf.Tests.{cases-lt}
 use Rattle.std.specs.declared.option.Option.{Option}
 use Rattle.std.specs.declared.option.Option.the-variants.{Some}
 use Rattle.plate.specs.Painted.{Painted, Blocks-painted}
 use Rattle.plate.proofs.Grids.{place-in}
-
-module _ {C : Type 0} (from count : ℕ) (cell : C) (old xs : List C) where
-  pub painted-more : from + count < length xs → Painted from count cell old xs → Painted from (count + 1) cell old (set xs (from + count) cell)
-  painted-more within p = record {
-    inside = λ j d h.
-        elim (cases-lt j count) [
-          | inl l ↦ let apart : from + j ≢ from + count = omega arith in getD-set-other xs (from + count) (from + j) cell d apart ∙ p .inside j d l
-          | inr g ↦
-              let last : j ≡ count = omega arith in
-              ap (λ i. getD (set xs (from + count) cell) (from + i) d) last ∙ getD-set-same xs (from + count) cell d within
-        ];
-    outside = λ k d h.
-        let apart : k ≢ from + count = omega arith in
-        let before : (k < from) ⊎ (from + count ≤ k) = elim h [ inl l ↦ inl l | inr g ↦ inr (omega arith) ] in
-        getD-set-other xs (from + count) k cell d apart ∙ p .outside k d before;
-  }
 
 module _ {C : Type 0} (named : ℕ → Option C) (from i w : ℕ) (tape : List ℕ) (cell : C) (old xs ys : List C) where
   pub blocks-more : Blocks-painted named from i w tape old xs → named (getD tape i 0) ≡ Some cell → Painted (from + i * w) w cell xs ys

@@ -16,9 +16,9 @@ use Rattle.plate.specs.Board.{plane-of}
 use Rattle.plate.specs.ReadCall.{plane-question, majority-of, read-refusal}
 
 -- A list that is f of each index up to i, the rest as it was: one index more.
-pub written-more : {X : Type 0} (f : ℕ → X) (old : List X) (i : ℕ) (d x : X) → i < length old → x ≡ f i
+pub swept-more : {X : Type 0} (f : ℕ → X) (old : List X) (i : ℕ) (d x : X) → i < length old → x ≡ f i
     → set (map f (counting 0 i) ++ drop i old) i x ≡ map f (counting 0 (i + 1)) ++ drop (i + 1) old
-written-more f old i d x h e =
+swept-more f old i d x h e =
     ap (λ rest. set (map f (counting 0 i) ++ rest) i x) (drop-more old i d h)
     ∙ set-at (map f (counting 0 i)) (getD old i d) (drop (i + 1) old) x i (length-map-counting f 0 i)
     ∙ ap (λ y. map f (counting 0 i) ++ y ∷ drop (i + 1) old) e

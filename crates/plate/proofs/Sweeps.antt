@@ -7,7 +7,7 @@ use native.Mathlib.Omega.{arith}
 use lib.ListN.{getD, length, set}
 use Rattle.std.proofs.shelf.Lists.{getD-set-same, getD-set-other, getD-read}
 use Rattle.std.proofs.shelf.Tests.{cases-lt}
-use Rattle.plate.specs.Sweep.{Apart, Asked, Written}
+use Rattle.plate.specs.Sweep.{Apart, Wanted, Swept}
 
 -- A place among those at `from` is none of the first n that are written.
 pub apart-out : (to from count : ℕ) → Apart to from count → (j n : ℕ) → j < count → n ≤ count → (from + j < to) ⊎ (to + n ≤ from + j)
@@ -18,23 +18,23 @@ pub apart-in : (to from count t f m : ℕ) → Apart to from count → to ≤ t 
 apart-in to from count t f m apart tl th fl fh = elim apart [ inl a ↦ inl (omega arith) | inr b ↦ inr (omega arith) ]
 
 module _ {C : Type 0} where
-  pub written-none : (to : ℕ) (asked : Asked C) (xs : List C) → Written to 0 asked xs xs
-  written-none to asked xs = record { inside = λ j d h. absurd (omega arith); outside = λ k d h. λ i. getD xs k d }
+  pub swept-none : (to : ℕ) (wanted : Wanted C) (xs : List C) → Swept to 0 wanted xs xs
+  swept-none to wanted xs = record { inside = λ j d h. absurd (omega arith); outside = λ k d h. λ i. getD xs k d }
 
   -- One more place.
-  pub written-more : (to n : ℕ) (asked : Asked C) (old xs : List C) (x : C) → Written to n asked old xs → to + n < length xs
-      → ((d : C) → asked n d x) → Written to (n + 1) asked old (set xs (to + n) x)
-  written-more to n asked old xs x w within here =
+  pub swept-more : (to n : ℕ) (wanted : Wanted C) (old xs : List C) (x : C) → Swept to n wanted old xs → to + n < length xs
+      → ((d : C) → wanted n d x) → Swept to (n + 1) wanted old (set xs (to + n) x)
+  swept-more to n wanted old xs x w within here =
       record {
         inside = λ j d h.
             elim (cases-lt j n) [
               | inl l ↦
-                  subst (λ y. asked j d y) (sym (getD-set-other xs (to + n) (to + j) x d (let ne : to + j ≢ to + n = omega arith in ne)))
+                  subst (λ y. wanted j d y) (sym (getD-set-other xs (to + n) (to + j) x d (let ne : to + j ≢ to + n = omega arith in ne)))
                   (w .inside j d l)
               | inr g ↦
                   let same : n ≡ j = omega arith in
-                  subst (λ m. asked m d (getD (set xs (to + n) x) (to + m) d)) same
-                  (subst (λ y. asked n d y) (sym (getD-set-same xs (to + n) x d within)) (here d))
+                  subst (λ m. wanted m d (getD (set xs (to + n) x) (to + m) d)) same
+                  (subst (λ y. wanted n d y) (sym (getD-set-same xs (to + n) x d within)) (here d))
             ];
         outside = λ k d h.
             let ne : k ≢ to + n = elim h [ inl a ↦ λ e. omega arith | inr b ↦ λ e. omega arith ] in
@@ -43,12 +43,12 @@ module _ {C : Type 0} where
       }
 
   -- A part, and the part after it.
-  pub written-join : (to m n : ℕ) (first second all : Asked C) (old mid new : List C)
-      → Written to m first old mid → Written (to + m) n second mid new
+  pub swept-join : (to m n : ℕ) (first second all : Wanted C) (old mid new : List C)
+      → Swept to m first old mid → Swept (to + m) n second mid new
       → ((j : ℕ) (d x : C) → j < m → first j d x → all j d x)
       → ((j : ℕ) (d x : C) → j < n → second j d x → all (m + j) d x)
-      → Written to (m + n) all old new
-  written-join to m n first second all old mid new a b f s =
+      → Swept to (m + n) all old new
+  swept-join to m n first second all old mid new a b f s =
       record {
         inside = λ j d h.
             elim (cases-lt j m) [
@@ -69,15 +69,15 @@ module _ {C : Type 0} where
       }
 
   -- What is read at a place among those at `from` is still old.
-  pub read-old : (to from count n : ℕ) (asked : Asked C) (old xs : List C) (x : C) → Written to n asked old xs → Apart to from count
+  pub read-old : (to from count n : ℕ) (wanted : Wanted C) (old xs : List C) (x : C) → Swept to n wanted old xs → Apart to from count
       → n < count → from + count ≤ length xs → x ≡ getD xs (from + n) x → (d : C) → x ≡ getD old (from + n) d
-  read-old to from count n asked old xs x w apart h within is d =
+  read-old to from count n wanted old xs x w apart h within is d =
       getD-read xs (from + n) x (omega arith) is d ∙ w .outside (from + n) d (apart-out to from count apart n n h (omega arith))
 
   -- Below what is written all is old, at an index written another way.
-  pub below-old : (to n : ℕ) (asked : Asked C) (old xs : List C) → Written to n asked old xs → (k m : ℕ) → k ≡ m → m < to → (d : C)
+  pub below-old : (to n : ℕ) (wanted : Wanted C) (old xs : List C) → Swept to n wanted old xs → (k m : ℕ) → k ≡ m → m < to → (d : C)
       → getD xs k d ≡ getD old m d
-  below-old to n asked old xs w k m e h d = ap (λ i. getD xs i d) e ∙ w .outside m d (inl h)
+  below-old to n wanted old xs w k m e h d = ap (λ i. getD xs i d) e ∙ w .outside m d (inl h)
 
 -- A function of three, at equal arguments.
 pub three : {C : Type 0} (f : C → C → C → C) {a b c x y z : C} → a ≡ x → b ≡ y → c ≡ z → f a b c ≡ f x y z

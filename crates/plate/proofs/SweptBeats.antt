@@ -9,7 +9,7 @@ use lib.ListN.{getD, length}
 use Rattle.hosts.specs.Ring.{left-of, right-of, stepped as ring-step}
 use Rattle.plate.specs.BeatCall.{Cells-beaten, voted-copies, copies, line}
 use Rattle.plate.specs.Layout.{copy-at, line-at, earlier-at}
-use Rattle.plate.specs.Sweep.{Written, Answers, Planes-votes, Ring-steps}
+use Rattle.plate.specs.Sweep.{Swept, Host-answers, Planes-votes, Ring-steps}
 use Rattle.plate.proofs.Grids.{place-in}
 use Rattle.hosts.proofs.Rings.{left-below, right-below}
 use Rattle.plate.proofs.Sweeps.{three}
@@ -21,11 +21,11 @@ module _ {C : Type 0} (host : C → C → C → C) (n : ℕ) where
       three host (same (left-of n i) (left-below n i h)) (same i h) (same (right-of n i) (right-below n i h))
 
 module _ {C : Type 0} (equal : C → C → Bool) (host : C → C → C → C) (n side : ℕ) (before voted stepped moved after : List C)
-    (votes : Written (n * (side * side)) (n * (side * side)) (Planes-votes equal n side before) before voted)
-    (steps : Written 0 (n * (side * side)) (Ring-steps host (n * (side * side)) n (side * side) voted) voted stepped)
-    (moves : Written (2 * (n * (side * side)) + n) n
-    (Answers (λ left centre right. centre) (2 * (n * (side * side))) (2 * (n * (side * side))) (2 * (n * (side * side))) stepped) stepped moved)
-    (lines : Written (2 * (n * (side * side))) (n * 1) (Ring-steps host (2 * (n * (side * side)) + n) n 1 moved) moved after) where
+    (votes : Swept (n * (side * side)) (n * (side * side)) (Planes-votes equal n side before) before voted)
+    (steps : Swept 0 (n * (side * side)) (Ring-steps host (n * (side * side)) n (side * side) voted) voted stepped)
+    (moves : Swept (2 * (n * (side * side)) + n) n
+    (Host-answers (λ left centre right. centre) (2 * (n * (side * side))) (2 * (n * (side * side))) (2 * (n * (side * side))) stepped) stepped moved)
+    (lines : Swept (2 * (n * (side * side))) (n * 1) (Ring-steps host (2 * (n * (side * side)) + n) n 1 moved) moved after) where
   -- The copies and the votes stay while the line steps.
   below-line : (k : ℕ) (d : C) → k < 2 * (n * (side * side)) → getD after k d ≡ getD stepped k d
   below-line k d h = lines .outside k d (inl h) ∙ moves .outside k d (inl (omega arith))

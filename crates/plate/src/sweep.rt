@@ -5,7 +5,7 @@ ghost use Rattle.toom.specs.Rows.{Side};
 ghost use Rattle.toom.specs.Vote.{vote-of};
 ghost use Rattle.plate.specs.BeatCall.{Cells-beaten};
 ghost use Rattle.plate.specs.Layout.{size-of};
-ghost use Rattle.plate.specs.Sweep.{Apart, Written, Answers, Row-votes, Plane-votes, Planes-votes, Ring-steps};
+ghost use Rattle.plate.specs.Sweep.{Apart, Swept, Host-answers, Row-votes, Plane-votes, Planes-votes, Ring-steps};
 use hosts::host::Host;
 use toom::kind::Kind;
 use toom::vote::vote;
@@ -49,7 +49,7 @@ fn fill<C: Kind, H: Host<C>>(
     requires left { ⌜ Apart to a count ⌝ }
     requires centre { ⌜ Apart to b count ⌝ }
     requires right { ⌜ Apart to c count ⌝ }
-    ensures { λ _. ⌜ Written to count (Answers (meaning (now (host .entry))) a b c (now (cells .entry))) (now (cells .entry)) (now (cells .exit)) ⌝ }
+    ensures { λ _. ⌜ Swept to count (Host-answers (meaning (now (host .entry))) a b c (now (cells .entry))) (now (cells .entry)) (now (cells .exit)) ⌝ }
 {
     for j in 0..count {
         cells[to + j] = host.answer(cells[a + j], cells[b + j], cells[c + j]);
@@ -62,7 +62,7 @@ fn vote_row<C: Kind>(cells: &mut [C], to: usize, north: usize, own: usize, side:
     requires to { ⌜ to + side ≤ length (now cells) ⌝ }
     requires north { ⌜ north + side ≤ to ⌝ }
     requires own { ⌜ own + side ≤ to ⌝ }
-    ensures { λ _. ⌜ Written to side (Row-votes equal north own side (now (cells .entry))) (now (cells .entry)) (now (cells .exit)) ⌝ }
+    ensures { λ _. ⌜ Swept to side (Row-votes equal north own side (now (cells .entry))) (now (cells .entry)) (now (cells .exit)) ⌝ }
 {
     let last = side - 1;
     fill(&Ballot, cells, to, north, own + 1, own, last);
@@ -74,7 +74,7 @@ fn vote_plane<C: Kind>(cells: &mut [C], to: usize, own: usize, side: usize)
     requires side { ⌜ Side side ⌝ }
     requires to { ⌜ to + side * side ≤ length (now cells) ⌝ }
     requires own { ⌜ own + side * side ≤ to ⌝ }
-    ensures { λ _. ⌜ Written to (side * side) (Plane-votes equal own side (now (cells .entry))) (now (cells .entry)) (now (cells .exit)) ⌝ }
+    ensures { λ _. ⌜ Swept to (side * side) (Plane-votes equal own side (now (cells .entry))) (now (cells .entry)) (now (cells .exit)) ⌝ }
 {
     let last = side - 1;
     for r in 0..last {
@@ -89,7 +89,7 @@ fn vote_plane<C: Kind>(cells: &mut [C], to: usize, own: usize, side: usize)
 fn vote_planes<C: Kind>(cells: &mut [C], planes: usize, side: usize)
     requires side { ⌜ Side side ⌝ }
     requires within { ⌜ 2 * (planes * (side * side)) ≤ length (now cells) ⌝ }
-    ensures { λ _. ⌜ Written (planes * (side * side)) (planes * (side * side)) (Planes-votes equal planes side (now (cells .entry))) (now (cells .entry)) (now (cells .exit)) ⌝ }
+    ensures { λ _. ⌜ Swept (planes * (side * side)) (planes * (side * side)) (Planes-votes equal planes side (now (cells .entry))) (now (cells .entry)) (now (cells .exit)) ⌝ }
 {
     let area = side * side;
     let voted = planes * area;
@@ -112,7 +112,7 @@ fn ring_step<C: Kind, H: Host<C>>(
     requires to { ⌜ to + n * w ≤ length (now cells) ⌝ }
     requires from { ⌜ from + n * w ≤ length (now cells) ⌝ }
     requires apart { ⌜ Apart to from (n * w) ⌝ }
-    ensures { λ _. ⌜ Written to (n * w) (Ring-steps (meaning (now (host .entry))) from n w (now (cells .entry))) (now (cells .entry)) (now (cells .exit)) ⌝ }
+    ensures { λ _. ⌜ Swept to (n * w) (Ring-steps (meaning (now (host .entry))) from n w (now (cells .entry))) (now (cells .entry)) (now (cells .exit)) ⌝ }
 {
     if n == 1 {
         fill(host, cells, to, from, from, from, w);

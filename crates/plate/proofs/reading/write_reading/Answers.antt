@@ -6,7 +6,7 @@ use Rattle.std.specs.Options.{mapped, valueOr}
 use Rattle.plate.specs.Board.{plane-of}
 use Rattle.plate.specs.ReadCall.{majority-of}
 use Rattle.plate.proofs.PlaneParts.{next-start, ends-within}
-use Rattle.plate.proofs.Readings.{written-more, reads}
+use Rattle.plate.proofs.Readings.{swept-more, reads}
 use Rattle.plate.proofs.reading.write_reading.Needs as need
 use Rattle.plate.proofs.reading.write_reading.Needs.{in-Some, in-None}
 
@@ -34,5 +34,5 @@ loop-i-again g c =
       | in-None w ↦ w .out-is ∙ reads equal cells side (c .loop-i .start) i at _ (c .plane-at .ensures) byte None (w .in-None .ensures tt)
     ] in (
       next-start (c .loop-i .start) i side at,
-      ap (λ o. set o i (c .match-majority .out)) (c .loop-i .inv .1) ∙ written-more _ (c .args .out .now) i 0 _ (omega arith) read,
+      ap (λ o. set o i (c .match-majority .out)) (c .loop-i .inv .1) ∙ swept-more _ (c .args .out .now) i 0 _ (omega arith) read,
     )

@@ -1,7 +1,7 @@
 use Prim.Native.Nat.{_*_}
-use Rattle.plate.specs.Sweep.{Written, Plane-votes}
+use Rattle.plate.specs.Sweep.{Swept, Plane-votes}
 use Rattle.plate.proofs.sweep.vote_plane.Given as given
 
 abbrev pub Inv-loop-r : given.InvT-loop-r
 Inv-loop-r g l =
-    Written (l .to) (l .r * l .side) (Plane-votes (g .C·Kind .equal) (l .own) (l .side) (l .entry .cells)) (l .entry .cells) (l .cells)
+    Swept (l .to) (l .r * l .side) (Plane-votes (g .C·Kind .equal) (l .own) (l .side) (l .entry .cells)) (l .entry .cells) (l .cells)

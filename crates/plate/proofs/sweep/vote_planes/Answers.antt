@@ -2,7 +2,7 @@ use mathlib.Core.Path.{_≡_, subst}
 use Prim.Native.Nat.{_*_}
 use native.Mathlib.Omega.{arith}
 use borrow.Author.Needs.{needs}
-use Rattle.plate.specs.Sweep.{Written, Planes-votes}
+use Rattle.plate.specs.Sweep.{Swept, Planes-votes}
 use Rattle.plate.proofs.Grids.{block-in}
 use Rattle.plate.proofs.SweptAll.{plane-more}
 use Rattle.plate.proofs.sweep.vote_planes.Needs as need
@@ -26,4 +26,4 @@ returns g c =
     let area = c .args .side * c .args .side in
     let old = c .args .cells .now in
     let all : c .loop-i .i ≡ n = omega arith in
-    subst (λ i. Written (n * area) (i * area) (Planes-votes (g .C·Kind .equal) n (c .args .side) old) old (c .loop-i .cells)) all (c .loop-i .inv)
+    subst (λ i. Swept (n * area) (i * area) (Planes-votes (g .C·Kind .equal) n (c .args .side) old) old (c .loop-i .cells)) all (c .loop-i .inv)

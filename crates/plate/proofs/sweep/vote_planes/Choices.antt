@@ -1,8 +1,8 @@
 use Prim.Native.Nat.{_*_}
-use Rattle.plate.specs.Sweep.{Written, Planes-votes}
+use Rattle.plate.specs.Sweep.{Swept, Planes-votes}
 use Rattle.plate.proofs.sweep.vote_planes.Given as given
 
 abbrev pub Inv-loop-i : given.InvT-loop-i
 Inv-loop-i g l =
-    Written (l .planes * (l .side * l .side)) (l .i * (l .side * l .side)) (Planes-votes (g .C·Kind .equal) (l .planes) (l .side) (l .entry .cells))
+    Swept (l .planes * (l .side * l .side)) (l .i * (l .side * l .side)) (Planes-votes (g .C·Kind .equal) (l .planes) (l .side) (l .entry .cells))
     (l .entry .cells) (l .cells)
