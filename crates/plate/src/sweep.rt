@@ -92,10 +92,10 @@ fn vote_planes<C: Kind>(cells: &mut [C], planes: usize, side: usize)
     ensures { λ _. ⌜ Swept (planes * (side * side)) (planes * (side * side)) (Planes-votes equal planes side (now (cells .entry))) (now (cells .entry)) (now (cells .exit)) ⌝ }
 {
     let area = side * side;
-    let voted = planes * area;
+    let votes = planes * area;
     for i in 0..planes {
         let plane = i * area;
-        vote_plane(cells, voted + plane, plane, side);
+        vote_plane(cells, votes + plane, plane, side);
     }
 }
 

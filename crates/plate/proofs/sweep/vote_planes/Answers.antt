@@ -7,8 +7,8 @@ use Rattle.plate.proofs.Grids.{block-in}
 use Rattle.plate.proofs.SweptAll.{plane-more}
 use Rattle.plate.proofs.sweep.vote_planes.Needs as need
 
-pub add-voted : need.add-voted
-add-voted g c = let plane = block-in (c .args .planes) (c .args .side * c .args .side) (c .loop-i .i) (omega arith) in search needs
+pub add-votes : need.add-votes
+add-votes g c = let plane = block-in (c .args .planes) (c .args .side * c .args .side) (c .loop-i .i) (omega arith) in search needs
 
 pub vote-plane-requires : need.vote-plane-requires
 vote-plane-requires g c κs =
