@@ -1,4 +1,5 @@
 // The worked examples of the rules, run as tests, and what a user of the library can prove through its contracts alone.
+#![tactic(auto)]
 
 #[cfg(test)]
 mod elementary;

@@ -7,7 +7,7 @@ use plate::plate::Plate;
 use toom::kind::Kind;
 
 pub fn lay_over<C: Kind>(cells: &mut [C], tape: &[u8]) -> Result<(), LayFault>
-    ensures { MatchResult result (λ _. CellsLaid cell_of 1 2 tape.now cells.old cells.new) (λ _. cells.new ≡ cells.old) }
+    ensures { MatchResult result (λ _. CellsLaid C.cell_of 1 2 tape.now cells.old cells.new) (λ _. cells.new ≡ cells.old) }
 {
     let mut plate = Plate::new(cells);
     plate.lay(1, 2, tape)

@@ -23,7 +23,7 @@ pub(crate) fn size(planes: usize, side: usize) -> usize
 
 // Each byte of the tape has to name a cell.
 fn check_tape<C: Kind>(tape: &[u8]) -> Result<(), LayFault>
-    ensures { MatchResult result (λ _. ask_each (tape_questions cell_of tape.now) (length tape.now) ≡ None) (λ e. ask_each (tape_questions cell_of tape.now) (length tape.now) ≡ Some (lay_fault e)) }
+    ensures { MatchResult result (λ _. ask_each (tape_questions C.cell_of tape.now) (length tape.now) ≡ None) (λ e. ask_each (tape_questions C.cell_of tape.now) (length tape.now) ≡ Some (lay_fault e)) }
 {
     for (index, byte) in tape.iter().enumerate() {
         if C::from_byte(*byte).is_none() {
@@ -40,7 +40,7 @@ pub fn check_lay<C: Kind>(
     tape: &[u8],
     memory: usize,
 ) -> Result<Shadow, LayFault>
-    ensures { MatchResult result (λ s. (lay_questions cell_of planes side tape.now memory ≡ None) × IsShadow s side no_marks) (λ e. lay_questions cell_of planes side tape.now memory ≡ Some (lay_fault e)) }
+    ensures { MatchResult result (λ s. (lay_questions C.cell_of planes side tape.now memory ≡ None) × IsShadow s side no_marks) (λ e. lay_questions C.cell_of planes side tape.now memory ≡ Some (lay_fault e)) }
 {
     if planes < 1 || planes > MAX_PLANES {
         return Err(LayFault::Planes);
@@ -65,7 +65,7 @@ pub fn check_strike<C: Kind>(
     column: usize,
     byte: u8,
 ) -> Result<C, StrikeFault>
-    ensures { MatchResult result (λ x. (place_questions cell_of planes side plane row column byte ≡ None) × (cell_of byte ≡ Some x)) (λ e. place_questions cell_of planes side plane row column byte ≡ Some (strike_fault e)) }
+    ensures { MatchResult result (λ x. (place_questions C.cell_of planes side plane row column byte ≡ None) × (C.cell_of byte ≡ Some x)) (λ e. place_questions C.cell_of planes side plane row column byte ≡ Some (strike_fault e)) }
 {
     if plane >= planes {
         return Err(StrikeFault::Plane);

@@ -20,8 +20,8 @@ fn paint<C: Kind>(cells: &mut [C], from: usize, count: usize, cell: C)
 fn paint_blocks<C: Kind>(cells: &mut [C], from: usize, n: usize, w: usize, tape: &[u8])
     requires within { from + n * w ≤ length cells.old }
     requires long { length tape.now ≡ n }
-    requires named { (i : ℕ) → i < n → is_some (cell_of (slice_index tape.now i)) ≡ true }
-    ensures { BlocksPainted cell_of from n w tape.now cells.old cells.new }
+    requires named { (i : ℕ) → i < n → is_some (C.cell_of (slice_index tape.now i)) ≡ true }
+    ensures { BlocksPainted C.cell_of from n w tape.now cells.old cells.new }
 {
     let mut at = from;
     for i in 0..n {
@@ -36,10 +36,10 @@ fn paint_blocks<C: Kind>(cells: &mut [C], from: usize, n: usize, w: usize, tape:
 pub(crate) fn lay_cells<C: Kind>(cells: &mut [C], planes: usize, side: usize, tape: &[u8])
     requires within { size_of planes side ≤ length cells.old }
     requires long { length tape.now ≡ planes }
-    requires named { (i : ℕ) → i < planes → is_some (cell_of (slice_index tape.now i)) ≡ true }
+    requires named { (i : ℕ) → i < planes → is_some (C.cell_of (slice_index tape.now i)) ≡ true }
     requires few { planes ≤ 4096 }
     requires narrow { side ≤ 64 }
-    ensures { CellsLaid cell_of planes side tape.now cells.old cells.new }
+    ensures { CellsLaid C.cell_of planes side tape.now cells.old cells.new }
 {
     let plane = side * side;
     let copies = planes * plane;

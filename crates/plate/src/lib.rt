@@ -1,4 +1,5 @@
 // The healing plate.
+#![tactic(auto)]
 
 pub mod checks;
 pub mod fault;

@@ -49,7 +49,7 @@ fn fill<C: Kind, H: Host<C>>(
     requires left { Apart to a count }
     requires centre { Apart to b count }
     requires right { Apart to c count }
-    ensures { Swept to count (HostAnswers (meaning host.now) a b c cells.old) cells.old cells.new }
+    ensures { Swept to count (HostAnswers (H.meaning host.now) a b c cells.old) cells.old cells.new }
 {
     for j in 0..count {
         cells[to + j] = host.answer(cells[a + j], cells[b + j], cells[c + j]);
@@ -62,7 +62,7 @@ fn vote_row<C: Kind>(cells: &mut [C], to: usize, north: usize, own: usize, side:
     requires to { to + side ≤ length cells.old }
     requires north { north + side ≤ to }
     requires own { own + side ≤ to }
-    ensures { Swept to side (RowVotes equal north own side cells.old) cells.old cells.new }
+    ensures { Swept to side (RowVotes C.equal north own side cells.old) cells.old cells.new }
 {
     let last = side - 1;
     fill(&Ballot, cells, to, north, own + 1, own, last);
@@ -74,7 +74,7 @@ fn vote_plane<C: Kind>(cells: &mut [C], to: usize, own: usize, side: usize)
     requires side { Side side }
     requires to { to + side * side ≤ length cells.old }
     requires own { own + side * side ≤ to }
-    ensures { Swept to (side * side) (PlaneVotes equal own side cells.old) cells.old cells.new }
+    ensures { Swept to (side * side) (PlaneVotes C.equal own side cells.old) cells.old cells.new }
 {
     let last = side - 1;
     for r in 0..last {
@@ -89,7 +89,7 @@ fn vote_plane<C: Kind>(cells: &mut [C], to: usize, own: usize, side: usize)
 fn vote_planes<C: Kind>(cells: &mut [C], planes: usize, side: usize)
     requires side { Side side }
     requires within { 2 * (planes * (side * side)) ≤ length cells.old }
-    ensures { Swept (planes * (side * side)) (planes * (side * side)) (PlanesVotes equal planes side cells.old) cells.old cells.new }
+    ensures { Swept (planes * (side * side)) (planes * (side * side)) (PlanesVotes C.equal planes side cells.old) cells.old cells.new }
 {
     let area = side * side;
     let votes = planes * area;
@@ -112,7 +112,7 @@ fn ring_step<C: Kind, H: Host<C>>(
     requires to { to + n * w ≤ length cells.old }
     requires from { from + n * w ≤ length cells.old }
     requires apart { Apart to from (n * w) }
-    ensures { Swept to (n * w) (RingSteps (meaning host.now) from n w cells.old) cells.old cells.new }
+    ensures { Swept to (n * w) (RingSteps (H.meaning host.now) from n w cells.old) cells.old cells.new }
 {
     if n == 1 {
         fill(host, cells, to, from, from, from, w);
@@ -137,7 +137,7 @@ pub(crate) fn beat_cells<C: Kind, H: Host<C>>(host: &H, cells: &mut [C], planes:
     requires some { 1 ≤ planes }
     requires side { Side side }
     requires within { size_of planes side ≤ length cells.old }
-    ensures { CellsBeaten equal (meaning host.now) planes side cells.old cells.new }
+    ensures { CellsBeaten C.equal (H.meaning host.now) planes side cells.old cells.new }
 {
     let area = side * side;
     let voted = planes * area;

@@ -1,4 +1,5 @@
 // The report of a plate: text in its caller's bytes.
+#![tactic(auto)]
 
 pub mod fault;
 pub mod laws;

@@ -1,4 +1,6 @@
 // Plays the round on standard input, or the rounds in the files that are named, and writes the report of each, or the line of its refusal.
+#![tactic(auto)]
+
 ghost use Rattle.std.specs.Prelude.{◌≡◌, ◌≤◌, length, IfOk};
 ghost use Rattle.plate.specs.Plates.{members};
 ghost use Rattle.rounds.specs.PlayCall.{entrant};
@@ -44,7 +46,7 @@ fn reply_of<C: Kind + Clone, H: Entry<C>>(
     file: &[u8],
     out: &mut [u8],
 ) -> anyhow::Result<usize>
-    ensures replied { IfOk result (λ n. Replied (members equal byte_of cell_of) (entrant number questions isIn H.Host.meaning) file.now n out.old out.new) }
+    ensures replied { IfOk result (λ n. Replied (members C.equal C.byte_of C.cell_of) (entrant H.number H.questions H.is_in H.Host.meaning) file.now n out.old out.new) }
     ensures within { IfOk result (λ n. n ≤ length out.new) }
 {
     let mut cells = vec![in heap; blank; ROUND_CELLS]?;

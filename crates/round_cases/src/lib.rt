@@ -1,4 +1,5 @@
 // Reports and rounds, tested: the text of reports, rounds played, every refusal of a play, and the line of a refusal.
+#![tactic(auto)]
 
 #[cfg(test)]
 mod files;

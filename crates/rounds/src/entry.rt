@@ -27,16 +27,16 @@ pub trait Entry<C>: Host<C> + Copy {
     ghost questions: { List ℕ → Option Refusal };
 
     // That it is the host of these bytes.
-    ghost isIn: { List ℕ → Self → Type 0 };
+    ghost is_in: { List ℕ → Self → Type 0 };
 
     fn kind() -> u8
         ensures { result ≡ number };
 
     fn read(bytes: &[u8]) -> Result<Self, HostFault>
-        ensures { MatchResult result (λ x. (questions bytes.now ≡ None) × isIn bytes.now x) (λ e. questions bytes.now ≡ Some (host_fault e)) };
+        ensures { MatchResult result (λ x. (questions bytes.now ≡ None) × is_in bytes.now x) (λ e. questions bytes.now ≡ Some (host_fault e)) };
 
     // Bytes give one host at most.
-    ghost once: { (bytes : List ℕ) (x y : Self) → isIn bytes x → isIn bytes y → x ≡ y };
+    ghost once: { (bytes : List ℕ) (x y : Self) → is_in bytes x → is_in bytes y → x ≡ y };
 }
 
 // Kind 0: one byte, Wolfram's number of the rule.
@@ -45,7 +45,7 @@ impl Entry<Bit> for Elementary {
 
     ghost questions = { rule_questions };
 
-    ghost isIn = { RuleIn };
+    ghost is_in = { RuleIn };
 
     ghost once = { Prim.search rules };
 
@@ -67,7 +67,7 @@ impl Entry<MachineCell> for Machine {
 
     ghost questions = { machine_refusal };
 
-    ghost isIn = { MachineIn };
+    ghost is_in = { MachineIn };
 
     ghost once = { one_machine_each };
 

@@ -1,4 +1,5 @@
 // Rounds of the contest: the round file, playing it, and the line of a refusal.
+#![tactic(auto)]
 
 pub mod entry;
 pub mod fault;

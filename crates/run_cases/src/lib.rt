@@ -1,4 +1,5 @@
 // Scripts and runs, tested: the reader, every refusal, a run against its strikes and beats one by one, and long runs.
+#![tactic(auto)]
 
 #[cfg(test)]
 mod long_runs;

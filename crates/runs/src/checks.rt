@@ -23,7 +23,7 @@ fn check_record<C: Kind>(
     index: usize,
     record: Record,
 ) -> Result<(), RunFault>
-    ensures { MatchResult result (λ _. record_asked cell_of planes side beats before index «record» ≡ None) (λ e. record_asked cell_of planes side beats before index «record» ≡ Some (run_fault e)) }
+    ensures { MatchResult result (λ _. record_asked C.cell_of planes side beats before index «record» ≡ None) (λ e. record_asked C.cell_of planes side beats before index «record» ≡ Some (run_fault e)) }
 {
     if record.spare != 0 {
         return Err(RunFault::Padding { record: index });
@@ -55,7 +55,7 @@ fn check_script<C: Kind>(
     beats: u32,
     script: &[u8],
 ) -> Result<(), RunFault>
-    ensures { MatchResult result (λ _. script_questions cell_of planes side beats script.now ≡ None) (λ e. script_questions cell_of planes side beats script.now ≡ Some (run_fault e)) }
+    ensures { MatchResult result (λ _. script_questions C.cell_of planes side beats script.now ≡ None) (λ e. script_questions C.cell_of planes side beats script.now ≡ Some (run_fault e)) }
 {
     if script.len() % RECORD_BYTES != 0 || script.len() > MAX_SCRIPT {
         return Err(RunFault::Script);
@@ -76,7 +76,7 @@ pub fn check_run<C: Kind>(
     beats: u32,
     script: &[u8],
 ) -> Result<(), RunFault>
-    ensures { MatchResult result (λ _. shape_questions cell_of planes side age beats script.now ≡ None) (λ e. shape_questions cell_of planes side age beats script.now ≡ Some (run_fault e)) }
+    ensures { MatchResult result (λ _. shape_questions C.cell_of planes side age beats script.now ≡ None) (λ e. shape_questions C.cell_of planes side age beats script.now ≡ Some (run_fault e)) }
 {
     if age > MAX_AGE || beats > MAX_AGE - age {
         return Err(RunFault::Age);

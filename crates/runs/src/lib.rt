@@ -1,4 +1,5 @@
 // Scripts of strikes, and the run that plays one on a plate.
+#![tactic(auto)]
 
 pub mod checks;
 pub mod fault;

@@ -1,4 +1,6 @@
 // Reads marked places of a torus from standard input, and prints their shadow after each vote.
+#![tactic(auto)]
+
 use crate::input::{InputFault, read_shadow};
 use crate::trace::thinning;
 use anyhow::anyhow;

@@ -1,14 +1,12 @@
 -- A shadow by its rows: their counts and words are those of its marks, and the marks determine it.
 use Rattle.std.proofs.Common.{◌≡◌, ℕ, ◌+◌, ◌-◌, ◌^◌, ◌<◌, ◌≤◌, Bool, cond, length, get_or, take, sym, ap, ◌∙◌, ap₂, inl, inr, add-one, arith}
-use mathlib.Core.HLevel.{is_prop→PathP, ×_prop, Π_prop}
-use native.Mathlib.Bridge.{le_prop}
-use native.Mathlib.Nat.{ℕ_set}
-use lib.Count.{ones}
+use Rattle.std.specs.Int.Count.{ones}
 use Rattle.std.proofs.lemmas.List.FromFn.{fill_by_all}
 use Rattle.std.proofs.lemmas.List.{ext_get_or, get_or-take, length-take-le}
 use Rattle.std.proofs.lemmas.Bool.{cases_lt}
 use Rattle.toom.specs.declared.shadow.Shadow.{Shadow}
-use Rattle.toom.specs.Rows.{Side, Narrow, row_word}
+use Rattle.toom.specs.EqualShadows.{shadows_equal}
+use Rattle.toom.specs.Rows.{row_word}
 use Rattle.toom.specs.Shadow.{marks, words_of, IsShadow, MarksPin}
 use Rattle.toom.specs.Torus.{Plane, total}
 use Rattle.toom.proofs.RowWords.{total_same, word_is, ones_are}
@@ -27,17 +25,6 @@ module _ (s : Shadow) where
       let within : s.side ≤ length s.rows = omega (arith, s.tall, s.sized.1) in
       fill_by_all (λ r. row_word s.side (marks s r)) (take s.side s.rows) s.side 0 (length-take-le s.side s.rows within)
       (λ k h. get_or-take s.side s.rows k 0 h ∙ sym (row_is k))
-
--- Shadows of the same side and the same rows are equal.
-pub shadows_equal : (s t : Shadow) → s.side ≡ t.side → s.rows ≡ t.rows → s ≡ t
-shadows_equal s t p q = λ i. record {
-  side = p i;
-  rows = q i;
-  sized = is_prop→PathP (λ j. Side (p j)) (λ j. ×_prop le_prop le_prop) s.sized t.sized i;
-  tall = is_prop→PathP (λ j. length (q j) ≡ 64) (λ j. ℕ_set _ _) s.tall t.tall i;
-  narrow = is_prop→PathP (λ j. (r : ℕ) → Narrow (p j) (get_or (q j) r 0)) (λ j. Π_prop (λ r. ×_prop le_prop (ℕ_set _ _))) s.narrow t.narrow i;
-  beyond = is_prop→PathP (λ j. (r : ℕ) → p j ≤ r → get_or (q j) r 0 ≡ 0) (λ j. Π_prop (λ r. Π_prop (λ h. ℕ_set _ _))) s.beyond t.beyond i;
-}
 
 -- Its rows are the words of its marks.
 row_of : (s : Shadow) (side : ℕ) (plane : Plane Bool) → IsShadow s side plane → (r : ℕ) → r < side

@@ -1,11 +1,12 @@
 pub mod Bit
+pub mod EqualShadows
 pub mod Inclusion
 pub mod Lines
 pub mod MachineCell
+pub mod MachineCells
 pub mod Rows
 pub mod Shadow
 pub mod ShadowCalls
 pub mod Torus
 pub mod Triangle
 pub mod Vote
-pub mod MachineCells

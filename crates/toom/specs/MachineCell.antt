@@ -1,6 +1,7 @@
 -- The machine cell as a kind: when two cells are the same, and a cell's byte, the head in its high four bits and the symbol in its low four.
 use Rattle.std.specs.Prelude.{ℕ, ◌+◌, ◌*◌, ◌/◌, ◌%◌, Bool, ◌&&◌, Some, Option, ◌==◌}
-use Rattle.std.proofs.Common.{arith}
+use Rattle.std.proofs.Common.{lit<}
+use Rattle.std.proofs.Math.Nat.{mod-lt}
 use Rattle.toom.specs.declared.machine_cell.MachineCell.{MachineCell}
 
 abbrev pub equal_machine_cells : MachineCell → MachineCell → Bool
@@ -12,4 +13,4 @@ byte_of_machine_cell x = 16 * x.head + x.symbol
 -- every byte names a machine cell
 abbrev pub machine_cell_of_byte : ℕ → Option MachineCell
 machine_cell_of_byte b =
-    Some record { head = b / 16 % 16; symbol = b % 16; head_fits = omega arith; symbol_fits = omega arith }
+    Some record { head = b / 16 % 16; symbol = b % 16; head_fits = mod-lt (b / 16) (lit< tt); symbol_fits = mod-lt b (lit< tt) }

@@ -1,5 +1,6 @@
 -- The shadow as a plane of bits: its marked places, which determine it.
-use Rattle.std.specs.Prelude.{◌≡◌, ℕ, ◌<◌, Bool, false, ◌&&◌, ◌||◌, List, map, ◌==◌, slice_index}
+use Rattle.std.specs.Prelude.{◌≡◌, ℕ, ◌<◌, Bool, false, ◌&&◌, ◌||◌, List, map, ◌==◌, nat_eq, slice_index}
+use Rattle.std.specs.Cmp.Lexicographic.{pointwise}
 use Rattle.std.specs.List.{range_with_len}
 use Rattle.toom.specs.declared.shadow.Shadow.{Shadow}
 use Rattle.toom.specs.Rows.{column, row_word}
@@ -28,6 +29,10 @@ with_mark plane row column r c = plane r c || (r == row && c == column)
 -- The row words of a shadow, from row 0 on.
 abbrev pub words_of : Shadow → List ℕ
 words_of s = map (λ r. row_word s.side (marks s r)) (range_with_len 0 s.side)
+
+-- Whether two shadows are the same.
+abbrev pub equal_shadows : (s t : Shadow) → Bool
+equal_shadows s t = s.side == t.side && pointwise nat_eq s.rows t.rows
 
 -- A shadow is its side and its marked places, and nothing else.
 abbrev pub MarksPin : Type 0

@@ -6,10 +6,10 @@ pub trait Kind: Copy {
     ghost equal: { Self → Self → Bool };
 
     // A cell's byte.
-    ghost byteOf: { Self → ℕ };
+    ghost byte_of: { Self → ℕ };
 
     // The cell that a byte names, or none.
-    ghost cellOf: { ℕ → Option Self };
+    ghost cell_of: { ℕ → Option Self };
 
     fn same(self, other: Self) -> bool
         ensures { result ≡ equal self other };

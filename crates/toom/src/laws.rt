@@ -9,8 +9,8 @@ use crate::kind::Kind;
 
 // At most one wounded copy is healed; so where the copies outside a shadow are right, those outside the voted shadow are right after the vote.
 pub fn vote_heals<C: Kind>()
-    ensures cells { OneWounded equal }
-    ensures planes { HealsOutside equal }
+    ensures cells { OneWounded C.equal }
+    ensures planes { HealsOutside C.equal }
 {}
 
 // A shadow is its side and its marks, so the vote depends on nothing but the bits.

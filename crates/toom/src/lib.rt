@@ -1,4 +1,5 @@
 // Kinds of cell, Toom's vote and the shadow of the struck places, with their laws.
+#![tactic(auto)]
 
 pub mod bit;
 pub mod kind;

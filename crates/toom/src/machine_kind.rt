@@ -15,17 +15,17 @@ impl Kind for MachineCell {
 
     ghost cell_of = { machine_cell_of_byte };
 
-    ghost reflexive = { first_of (Prim.search rules, Prim.grind (arith, Self.row.coded.inj)) };
+    ghost reflexive = { Prim.search rules };
 
     ghost exact = { λ x y e.
         let parts = and_parts (x.head == y.head) (x.symbol == y.symbol) e in
         cells_equal x y (eqb-true _ _ parts.0) (eqb-true _ _ parts.1) };
 
-    ghost bounded = { first_of (Prim.search rules, Prim.grind (arith, Self.row.coded.inj)) };
+    ghost bounded = { Prim.search rules };
 
     ghost readback = { λ x. ap Some (cells_equal _ x (omega arith) (omega arith)) };
 
-    ghost unique = { first_of (Prim.search rules, Prim.grind (arith, Self.row.coded.inj)) };
+    ghost unique = { Prim.search rules };
 
     fn same(self, other: MachineCell) -> bool {
         self.head == other.head && self.symbol == other.symbol

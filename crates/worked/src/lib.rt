@@ -1,4 +1,6 @@
 // The worked examples of the rules, on the definitions that the contracts use.
+#![tactic(auto)]
+
 ghost use Rattle.worked.specs.Worked.{WorkedExamples};
 
 // Each example holds. There is nothing to run: the examples are the contract.

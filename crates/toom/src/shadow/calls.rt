@@ -1,10 +1,9 @@
 // The calls on a shadow: make it empty, add a place, ask one, vote it whole, count its places, write its rows.
 ghost use Rattle.std.specs.Prelude.{◌≡◌, Decides};
-ghost use Rattle.toom.specs.Shadow.{marks};
+ghost use Rattle.toom.specs.Shadow.{marks, equal_shadows};
 ghost use Rattle.toom.specs.ShadowCalls.{Emptied, Asked, Added, Voted, Written};
 ghost use Rattle.toom.specs.Torus.{count_marks};
-ghost use Rattle.std.specs.Cmp.Rules.{comparing};
-ghost use Rattle.std.proofs.Common.{rules, arith};
+ghost use Rattle.toom.specs.EqualShadows.{equal_shadows_laws};
 
 use crate::rows::{vote_rows, with_column};
 use crate::shadow::{MAX_SIDE, MIN_SIDE, Shadow};
@@ -87,11 +86,15 @@ impl Shadow {
 }
 
 impl PartialEq for Shadow {
-    ghost equals = { λ s t b. Decides b (s ≡ t) };
+    ghost eq = { equal_shadows };
 
-    ghost laws = { first_of (Prim.search (comparing, rules), Prim.grind (arith, Self.row.coded.inj)) };
+    ghost laws = { equal_shadows_laws };
 
-    fn eq(&self, other: &Shadow) -> bool {
+    // Two shadows are the same exactly where they are equal.
+    fn eq(&self, other: &Shadow) -> bool
+        ensures value { result ≡ equal_shadows self.now other.now }
+        ensures decides { Decides result (self.now ≡ other.now) }
+    {
         if self.side != other.side {
             return false;
         }

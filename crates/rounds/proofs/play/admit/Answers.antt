@@ -9,7 +9,7 @@ use Rattle.rounds.proofs.play.admit.Goals as goal
 pub returns-in-err-check-lay : goal.returns-in-err-check-lay
 returns-in-err-check-lay g c =
     let k = members g.C.Kind.equal g.C.Kind.byte_of g.C.Kind.cell_of in
-    let e = entrant g.H.Entry.number g.H.Entry.questions g.H.Entry.isIn g.H.Host.meaning in
+    let e = entrant g.H.Entry.number g.H.Entry.questions g.H.Entry.is_in g.H.Host.meaning in
     let file = c.args.file.now in
     let read = c.in-ok-round.ensures in
     let round : round_questions g.H.Entry.number file ≡ None = subst (λ i. round_questions i file ≡ None) c.kind.ensures read.0 in

@@ -7,7 +7,7 @@ use Rattle.rounds.proofs.reply.reply.Goals as goal
 pub returns-in-Ok : goal.returns-in-Ok
 returns-in-Ok g c =
     let k = members g.C.Kind.equal g.C.Kind.byte_of g.C.Kind.cell_of in
-    let e = entrant g.H.Entry.number g.H.Entry.questions g.H.Entry.isIn g.H.Host.meaning in
+    let e = entrant g.H.Entry.number g.H.Entry.questions g.H.Entry.is_in g.H.Host.meaning in
     let plays = c.in-Ok.ensures.outcome in
     record {
       outcome = record { answer = Ok c.in-Ok.len; written = c.play.new.out; plays = plays; tells = (refl, refl) };

@@ -20,7 +20,7 @@ majority false false false = refl
 pub returns : goal.returns
 returns c =
     let side = c.args.side in
-    let own = c.args.own_val in
+    let own = c.args.own in
     let north = c.args.north in
     let east = c.turned-east.result in
     let turned = c.turned-east.ensures in
@@ -28,7 +28,7 @@ returns c =
     record {
       narrow =
           narrow_or side (bit_and north east) (bit_and own (bit_or north east)) (narrow_and side north east n turned.narrow)
-          (narrow_and side own (bit_or north east) c.requires.own_val (narrow_or side north east n turned.narrow));
+          (narrow_and side own (bit_or north east) c.requires.own (narrow_or side north east n turned.narrow));
       columns = λ k h.
           column_or (bit_and north east) (bit_and own (bit_or north east)) k
           ∙ ap₂ ◌||◌ (column_and north east k) (column_and own (bit_or north east) k ∙ ap (λ b. column own k && b) (column_or north east k))

@@ -3,20 +3,20 @@ use Rattle.toom.specs.Rows.{Narrow}
 use Rattle.toom.proofs.RowVotes.{VotedBelow, voted_more, voted_all}
 use Rattle.toom.proofs.rows.vote_rows.Goals as goal
 
-pub vote-row-requires : goal.vote-row-requires
-vote-row-requires c =
+pub vote_row-requires : goal.vote_row-requires
+vote_row-requires c =
     let old : (k : ℕ) → c.loop-r.r ≤ k → Narrow c.args.side (get_or c.loop-r.rows k 0) =
     λ k h. subst (λ w. Narrow c.args.side w) (sym (c.loop-r.invariant.1 k h)) (c.requires.narrow k) in
     record { side = c.requires.side; own = old c.loop-r.r (omega arith); north = old (c.loop-r.r + 1) (omega arith) }
 
 pub loop-r-preserved : goal.loop-r-preserved
 loop-r-preserved c =
-    voted_more c.args.side c.args.rows.now c.loop-r.r c.vote-row.result c.loop-r.rows (omega arith) c.loop-r.invariant
+    voted_more c.args.side c.args.rows.now c.loop-r.r c.vote_row.result c.loop-r.rows (omega arith) c.loop-r.invariant
     (search rules)
 
 pub returns : goal.returns
 returns c =
     let last : c.loop-r.r ≡ c.args.side - 1 = omega arith in
-    voted_all c.args.side c.args.rows.now (c.args.side - 1) c.vote-row-2.result c.loop-r.rows (omega arith)
+    voted_all c.args.side c.args.rows.now (c.args.side - 1) c.vote_row-2.result c.loop-r.rows (omega arith)
     (subst (λ r. VotedBelow c.args.side c.args.rows.now r c.loop-r.rows) last c.loop-r.invariant) (omega arith)
     (search rules)

@@ -18,10 +18,15 @@ zero_narrow side = (omega arith, zero-mod (2 ^ (64 - side)))
 zero_column : (c : ℕ) → column 0 c ≡ false
 zero_column c = ap (λ n. eqb (n % 2) 1) (zero-div (2 ^ (63 - c)))
 
-pub invariant-of-result : goal.invariant-of-result
-invariant-of-result c =
+pub invariant_of-result : goal.invariant_of-result
+invariant_of-result c =
     let side = c.args.side in
-    ((omega arith, omega arith), (refl, (λ r. subst (λ w. Narrow side w) (sym (zero_row r)) (zero_narrow side), (λ r h. zero_row r, tt))))
+    record {
+      sized = (omega arith, omega arith);
+      tall = refl;
+      narrow = λ r. subst (λ w. Narrow side w) (sym (zero_row r)) (zero_narrow side);
+      beyond = λ r h. zero_row r;
+    }
 
 pub returns : goal.returns
 returns c = record { sides = refl; places = λ r k h l. ap (λ w. column w k) (zero_row r) ∙ zero_column k }

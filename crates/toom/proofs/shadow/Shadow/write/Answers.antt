@@ -10,4 +10,4 @@ returns c =
     let out = c.args.out.now in
     let words : take (s.side - 0) s.rows ≡ words_of s = ap (λ n. take n s.rows) (sub-zero s.side) ∙ words_are s in
     let rest : drop (s.side - 0) out ≡ drop s.side out = ap (λ n. drop n out) (sub-zero s.side) in
-    (omega arith, ap₂ ◌++◌ (c.copy-from-slice.ensures.after ∙ words) rest)
+    (omega arith, ap₂ ◌++◌ (c.copy_from_slice.ensures.after ∙ words) rest)

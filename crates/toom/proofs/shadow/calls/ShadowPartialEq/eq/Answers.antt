@@ -1,12 +1,14 @@
-use Rattle.std.proofs.Common.{ap}
-use Rattle.std.proofs.lemmas.Slice.Eq.{slice_eq-Decides}
-use Rattle.toom.proofs.Shadows.{shadows_equal}
+use Rattle.std.proofs.Common.{◌≡◌, ◌&&◌, nat_eq, sym, ap, ◌∙◌, subst, eq-eqb}
+use Rattle.std.specs.Bool.{Decides}
+use Rattle.std.specs.Cmp.Lexicographic.{pointwise}
+use Rattle.toom.specs.EqualShadows.{equal_shadows_decides}
+use Rattle.toom.specs.Shadow.{equal_shadows}
 use Rattle.toom.proofs.shadow.calls.ShadowPartialEq.eq.Goals as goal
-use Rattle.std.proofs.lemmas.Bool.Decides.{Decides-eqb}
 
 pub returns : goal.returns
 returns c =
-    let rows = slice_eq-Decides Decides-eqb c.args.self.now.rows c.args.other.now.rows c.eq.result c.eq.ensures in (
-      λ yes. shadows_equal c.args.self.now c.args.other.now c.if-self-other.false (rows.0 yes),
-      λ same. rows.1 (ap (λ s. s.rows) same),
-    )
+    let s = c.args.self.now in
+    let t = c.args.other.now in
+    let value : c.eq.result ≡ equal_shadows s t =
+    c.eq.ensures ∙ sym (ap (λ b. b && pointwise nat_eq s.rows t.rows) (eq-eqb s.side t.side c.if-self-other.false)) in
+    record { value = value; decides = subst (λ r. Decides r (s ≡ t)) (sym value) (equal_shadows_decides s t) }
