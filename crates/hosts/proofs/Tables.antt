@@ -23,6 +23,10 @@ pub record Filled (file : List ℕ) (table : List Entry) (states symbols : ℕ) 
   pub entries : (q s : ℕ) → has_entry states symbols q s ≡ true
       → get_or table (16 * q + s) blank ≡ entry_in file ((q - 1) * symbols + s)
 
+-- No machine has state 16.
+none_past : (states symbols i : ℕ) → states ≤ 15 → 256 ≤ i → has_entry states symbols (i / 16) (i % 16) ≡ false
+none_past states symbols i few past = grind (arith, nat_tests)
+
 module _ (file : List ℕ) (bytes : Bytes file) (good : machine_refusal file ≡ None) where
   abbrev Q : ℕ
   Q = states_in file
@@ -48,15 +52,14 @@ module _ (file : List ℕ) (bytes : Bytes file) (good : machine_refusal file ≡
       (omega (arith, leb-true _ _ state.0), omega (arith, leb-true _ _ state.1), ltb-true _ _ symbol.0)
 
   module _ (table : List Entry) (whole : length table ≡ 256) (slots : (i : ℕ) → i < 256 → get_or table i blank ≡ slot_in file i) where
-    -- Past the table both sides are blank: no machine has state 16.
+    -- Past the table both sides are blank.
     every_slot : (i : ℕ) → get_or table i blank ≡ slot_in file i
     every_slot i =
         elim (cases_lt i 256) [
           | inl h ↦ slots i h
           | inr h ↦
-              let most = sizes.1 in
-              let none : has_entry Q S (i / 16) (i % 16) ≡ false = grind (arith, nat_tests) in
-              get_or_past table i blank (omega arith) ∙ sym (cond-false _ _ blank none)
+              get_or_past table i blank (omega arith)
+              ∙ sym (cond-false _ (entry_in file ((i / 16 - 1) * S + i % 16)) blank (none_past Q S i sizes.1 h))
         ]
 
     used : (i : ℕ) → Used Q S table i

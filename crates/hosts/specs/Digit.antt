@@ -1,5 +1,5 @@
 -- A digit: a number from 0 to 15, as a machine cell has for its head and for its symbol.
-use Rattle.std.proofs.Common.{arith}
+use Rattle.std.proofs.Common.{lit<}
 use Rattle.std.specs.Prelude.{ℕ, ◌<◌}
 use Rattle.toom.specs.declared.machine_cell.MachineCell.{MachineCell}
 use Rattle.hosts.specs.declared.entry.Entry.{Entry}
@@ -9,7 +9,7 @@ pub record Digit : Type 0 where
   pub fits : value < 16
 
 abbrev pub zero_digit : Digit
-zero_digit = record { value = 0; fits = omega arith }
+zero_digit = record { value = 0; fits = lit< tt }
 
 -- The machine cell of a head and a symbol, and back.
 abbrev pub cell : (head symbol : Digit) → MachineCell

@@ -1,7 +1,8 @@
 -- The machine file: Q in the first four bits, S - 1 in the next four; then two bytes an entry, of next state 4, symbol 4, move 2 and zeros 6 bits,
 -- state 1 first, symbols rising within a state.
 use Rattle.std.specs.Prelude.{◌≡◌, ℕ, zero, suc, ◌+◌, ◌-◌, ◌*◌, ◌/◌, ◌%◌, ◌<◌, true, cond, ◌&&◌, List, map, length, None, codes, Option, ◌==◌, nat_le, nat_lt, slice_index}
-use Rattle.std.proofs.Common.{arith}
+use Rattle.std.proofs.Common.{lit<}
+use Rattle.std.proofs.Math.Nat.{mod-lt}
 use Rattle.std.specs.List.{range_with_len}
 use Rattle.std.specs.Option.{option_or}
 use Rattle.hosts.specs.declared.entry.Entry.{Entry}
@@ -36,8 +37,8 @@ entry_in file k = record {
   next = high_byte file k / 16 % 16;
   symbol = high_byte file k % 16;
   motion = motion_from (low_byte file k / 64);
-  next_fits = omega arith;
-  symbol_fits = omega arith;
+  next_fits = mod-lt (high_byte file k / 16) (lit< tt);
+  symbol_fits = mod-lt (high_byte file k) (lit< tt);
 }
 
 -- The questions, with their numbers.

@@ -1,6 +1,6 @@
 -- The table of a machine: its sizes, and what each slot may hold.
 use Rattle.std.specs.Prelude.{◌≡◌, ℕ, ◌/◌, ◌%◌, ◌<◌, ◌≤◌, Bool, true, false, ◌&&◌, List, nat_le, nat_lt, slice_index_or}
-use Rattle.std.proofs.Common.{arith}
+use Rattle.std.proofs.Common.{lit<}
 use Rattle.hosts.specs.declared.entry.Entry.{Entry}
 use Rattle.hosts.specs.declared.entry.Motion.{Motion}
 use Rattle.hosts.specs.declared.entry.Motion.TheVariants.{Stay, Left, Right}
@@ -18,7 +18,7 @@ abbrev pub InRange : (states symbols : ℕ) → Entry → Type 0
 InRange states symbols e = (1 ≤ e.next) × (e.next ≤ states) × (e.symbol < symbols)
 
 abbrev pub blank : Entry
-blank = record { next = 0; symbol = 0; motion = Stay; next_fits = omega arith; symbol_fits = omega arith }
+blank = record { next = 0; symbol = 0; motion = Stay; next_fits = lit< tt; symbol_fits = lit< tt }
 
 -- How the file format numbers the motions.
 abbrev pub motion_code : Motion → ℕ

@@ -3,7 +3,7 @@ use Rattle.std.proofs.lemmas.List.{take_all}
 use Rattle.std.proofs.lemmas.List.Sums.{count_by_more_yes, count_by_more_no}
 use Rattle.plate.specs.ReadCall.{holders}
 use Rattle.plate.proofs.majority.count_same.Goals as goal
-use Rattle.plate.proofs.majority.count_same.Goals.{then_same, else_same}
+use Rattle.plate.proofs.majority.count_same.Goals.{then-same, else-same}
 
 pub loop-x-preserved : goal.loop-x-preserved
 loop-x-preserved g c =
@@ -13,10 +13,10 @@ loop-x-preserved g c =
     let x = c.x-item.result in
     let read = ap like (sym c.x-item.is) ∙ sym c.same.ensures in
     elim c.if-same.branch [
-      | then_same w ↦
+      | then-same w ↦
           let more = count_by_more_yes like plane i x c.loop-x-test.true (read ∙ w.if-same.true) in
           (w.count-is ∙ ap (λ n. n + 1) c.loop-x.invariant.0 ∙ sym more, omega (arith, w.count-is))
-      | else_same w ↦
+      | else-same w ↦
           let more = count_by_more_no like plane i x c.loop-x-test.true (read ∙ w.if-same.false) in
           (w.count-is ∙ c.loop-x.invariant.0 ∙ sym more, omega (arith, w.count-is))
     ]

@@ -3,14 +3,14 @@ use Rattle.plate.proofs.Hurts.{CountedBelow, counts_low, counted_more, counted_a
 use Rattle.plate.proofs.PlaneParts.{next_start, ends_within, plane_long}
 use Rattle.plate.proofs.mapping.write_map.Goals as goal
 
-pub plane-at-requires : goal.plane-at-requires
-plane-at-requires g c =
+pub plane_at-requires : goal.plane_at-requires
+plane_at-requires g c =
     ends_within c.loop-i.start c.loop-i.i c.args.planes c.args.side _ c.loop-i.invariant.0 c.loop-i-test.true c.requires.size
 
-pub add-hurt-requires : goal.add-hurt-requires
-add-hurt-requires g c =
+pub add_hurt-requires : goal.add_hurt-requires
+add_hurt-requires g c =
     let long =
-    plane_long c.args.cells.now c.plane-at.result.now c.loop-i.start c.loop-i.i c.args.planes c.args.side c.plane-at.ensures
+    plane_long c.args.cells.now c.plane_at.result.now c.loop-i.start c.loop-i.i c.args.planes c.args.side c.plane_at.ensures
     c.loop-i.invariant.0 c.loop-i-test.true c.requires.size in
     record {
       room = omega arith;
@@ -23,12 +23,12 @@ pub loop-i-preserved : goal.loop-i-preserved
 loop-i-preserved g c =
     let at = c.loop-i.invariant.0 in
     let long =
-    plane_long c.args.cells.now c.plane-at.result.now c.loop-i.start c.loop-i.i c.args.planes c.args.side c.plane-at.ensures
+    plane_long c.args.cells.now c.plane_at.result.now c.loop-i.start c.loop-i.i c.args.planes c.args.side c.plane_at.ensures
     at c.loop-i-test.true c.requires.size in (
       next_start c.loop-i.start c.loop-i.i c.args.side at,
       counted_more g.C.Kind.equal c.args.planes c.args.side c.args.cells.now _ c.loop-i.out c.loop-i.start c.loop-i.i
-          c.plane-at.result.now c.index-cells-lines.result long at c.plane-at.ensures c.loop-i-test.true c.requires.size
-          c.index-cells-lines.is c.loop-i.invariant.1 _ c.add-hurt.ensures.places c.add-hurt.ensures.rest,
+          c.plane_at.result.now c.index-cells-lines.result long at c.plane_at.ensures c.loop-i-test.true c.requires.size
+          c.index-cells-lines.is c.loop-i.invariant.1 _ c.add_hurt.ensures.places c.add_hurt.ensures.rest,
     )
 
 pub returns : goal.returns

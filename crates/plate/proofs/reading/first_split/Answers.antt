@@ -5,20 +5,20 @@ use Rattle.plate.proofs.PlaneParts.{next_start, ends_within}
 use Rattle.plate.proofs.Readings.{whole, split}
 use Rattle.plate.proofs.reading.first_split.Goals as goal
 
-pub plane-at-requires : goal.plane-at-requires
-plane-at-requires g c =
+pub plane_at-requires : goal.plane_at-requires
+plane_at-requires g c =
     ends_within c.loop-i.start c.loop-i.i c.args.planes c.args.side _ c.loop-i.invariant.0 c.loop-i-test.true c.requires.size
 
-pub overflow-add-start : goal.overflow-add-start
-overflow-add-start g c =
+pub overflow_add-start : goal.overflow_add-start
+overflow_add-start g c =
     omega (arith, ends_within c.loop-i.start c.loop-i.i c.args.planes c.args.side _ c.loop-i.invariant.0 c.loop-i-test.true c.requires.size)
 
-pub returns-in-default : goal.returns-in-default
-returns-in-default g c =
+pub returns-in_default : goal.returns-in_default
+returns-in_default g c =
     let equal = g.C.Kind.equal in
     let cells = c.args.cells.now in
     asked_first (plane_question equal cells c.args.side) c.args.planes c.loop-i.i _ c.loop-i.invariant.1
-    (split equal cells c.args.side c.loop-i.start c.loop-i.i c.loop-i.invariant.0 _ c.plane-at.ensures c.in-default.ensures) c.loop-i-test.true
+    (split equal cells c.args.side c.loop-i.start c.loop-i.i c.loop-i.invariant.0 _ c.plane_at.ensures c.in_default.ensures) c.loop-i-test.true
 
 pub loop-i-preserved : goal.loop-i-preserved
 loop-i-preserved g c =
@@ -27,5 +27,5 @@ loop-i-preserved g c =
     let at = c.loop-i.invariant.0 in (
       next_start c.loop-i.start c.loop-i.i c.args.side at,
       asked_more (plane_question equal cells c.args.side) c.loop-i.i c.loop-i.invariant.1
-          (whole equal cells c.args.side c.loop-i.start c.loop-i.i at _ c.plane-at.ensures c.in-Some.field-0 c.in-Some.ensures),
+          (whole equal cells c.args.side c.loop-i.start c.loop-i.i at _ c.plane_at.ensures c.in-Some.field-0 c.in-Some.ensures),
     )

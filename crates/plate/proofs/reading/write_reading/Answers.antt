@@ -7,12 +7,12 @@ use Rattle.plate.proofs.Readings.{swept_more, reads}
 use Rattle.plate.proofs.reading.write_reading.Goals as goal
 use Rattle.plate.proofs.reading.write_reading.Goals.{in-Some, in-None}
 
-pub plane-at-requires : goal.plane-at-requires
-plane-at-requires g c =
+pub plane_at-requires : goal.plane_at-requires
+plane_at-requires g c =
     ends_within c.loop-i.start c.loop-i.i c.args.planes c.args.side _ c.loop-i.invariant.0 c.loop-i-test.true c.requires.size
 
-pub overflow-add-start : goal.overflow-add-start
-overflow-add-start g c =
+pub overflow_add-start : goal.overflow_add-start
+overflow_add-start g c =
     omega (arith, ends_within c.loop-i.start c.loop-i.i c.args.planes c.args.side _ c.loop-i.invariant.0 c.loop-i-test.true c.requires.size)
 
 pub loop-i-preserved : goal.loop-i-preserved
@@ -27,8 +27,8 @@ loop-i-preserved g c =
     elim c.match-majority.branch [
       | in-Some w ↦
           w.out-is ∙ w.byte.ensures
-          ∙ reads equal cells side c.loop-i.start i at _ c.plane-at.ensures byte (Some w.in-Some.cell) w.in-Some.ensures
-      | in-None w ↦ w.out-is ∙ reads equal cells side c.loop-i.start i at _ c.plane-at.ensures byte None w.in-None.ensures
+          ∙ reads equal cells side c.loop-i.start i at _ c.plane_at.ensures byte (Some w.in-Some.cell) w.in-Some.ensures
+      | in-None w ↦ w.out-is ∙ reads equal cells side c.loop-i.start i at _ c.plane_at.ensures byte None w.in-None.ensures
     ] in (
       next_start c.loop-i.start i side at,
       ap (λ o. set o i c.match-majority.out) c.loop-i.invariant.1 ∙ swept_more _ c.args.out.now i 0 _ (omega arith) read,

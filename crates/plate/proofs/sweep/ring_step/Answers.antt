@@ -4,8 +4,8 @@ use Rattle.plate.proofs.Sweeps.{apart_in}
 use Rattle.plate.proofs.SweptRings.{ring_stepped}
 use Rattle.plate.proofs.sweep.ring_step.Goals as goal
 
-pub overflow-add-from-2 : goal.overflow-add-from-2
-overflow-add-from-2 g c = let last = last_block c.args.n c.args.w c.requires.some in search rules
+pub overflow_add-from-2 : goal.overflow_add-from-2
+overflow_add-from-2 g c = let last = last_block c.args.n c.args.w c.requires.some in search rules
 
 pub fill-requires-2 : goal.fill-requires-2
 fill-requires-2 g c =
@@ -25,14 +25,14 @@ fill-requires-2 g c =
       right = apart_in to from (n * w) to (from + w) w c.requires.apart (omega arith) (omega arith) (omega arith) (omega arith);
     }
 
-pub overflow-add-from-4 : goal.overflow-add-from-4
-overflow-add-from-4 g c =
+pub overflow_add-from-4 : goal.overflow_add-from-4
+overflow_add-from-4 g c =
     let last = last_block c.args.n c.args.w c.requires.some in
     let inner = last_block (c.args.n - 1) c.args.w (omega arith) in
     search rules
 
-pub overflow-sub-last-2 : goal.overflow-sub-last-2
-overflow-sub-last-2 g c = let inner = last_block (c.args.n - 1) c.args.w (omega arith) in search rules
+pub overflow_sub-last-2 : goal.overflow_sub-last-2
+overflow_sub-last-2 g c = let inner = last_block (c.args.n - 1) c.args.w (omega arith) in search rules
 
 pub fill-requires-3 : goal.fill-requires-3
 fill-requires-3 g c =
@@ -52,8 +52,8 @@ fill-requires-3 g c =
       right = apart_in to from (n * w) (to + w) (from + 2 * w) ((n - 1) * w - w) c.requires.apart (omega arith) (omega arith) (omega arith) (omega arith);
     }
 
-pub overflow-sub-from : goal.overflow-sub-from
-overflow-sub-from g c = let inner = last_block (c.args.n - 1) c.args.w (omega arith) in search rules
+pub overflow_sub-from : goal.overflow_sub-from
+overflow_sub-from g c = let inner = last_block (c.args.n - 1) c.args.w (omega arith) in search rules
 
 pub fill-requires-4 : goal.fill-requires-4
 fill-requires-4 g c =

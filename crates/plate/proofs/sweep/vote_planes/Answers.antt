@@ -4,18 +4,18 @@ use Rattle.plate.proofs.Grids.{block_in}
 use Rattle.plate.proofs.SweptAll.{plane_more}
 use Rattle.plate.proofs.sweep.vote_planes.Goals as goal
 
-pub overflow-add-votes : goal.overflow-add-votes
-overflow-add-votes g c = let plane = block_in c.args.planes (c.args.side * c.args.side) c.loop-i.i (omega arith) in search rules
+pub overflow_add-votes : goal.overflow_add-votes
+overflow_add-votes g c = let plane = block_in c.args.planes (c.args.side * c.args.side) c.loop-i.i (omega arith) in search rules
 
-pub vote-plane-requires : goal.vote-plane-requires
-vote-plane-requires g c =
+pub vote_plane-requires : goal.vote_plane-requires
+vote_plane-requires g c =
     let plane = block_in c.args.planes (c.args.side * c.args.side) c.loop-i.i (omega arith) in
     record { side = c.requires.side; to = omega arith; own = omega arith }
 
 pub loop-i-preserved : goal.loop-i-preserved
 loop-i-preserved g c =
-    plane_more g.C.Kind.equal c.args.planes c.args.side c.args.cells.now c.loop-i.cells c.vote-plane.new.cells
-    c.loop-i.i (omega arith) c.loop-i.invariant c.vote-plane.ensures
+    plane_more g.C.Kind.equal c.args.planes c.args.side c.args.cells.now c.loop-i.cells c.vote_plane.new.cells
+    c.loop-i.i (omega arith) c.loop-i.invariant c.vote_plane.ensures
 
 pub returns : goal.returns
 returns g c =

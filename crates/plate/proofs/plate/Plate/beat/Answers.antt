@@ -8,9 +8,9 @@ pub returns : goal.returns
 returns g c =
     let k = members g.C.Kind.equal g.C.Kind.byte_of g.C.Kind.cell_of in
     let met = g.met.C.Kind in
-    let o = c.try-beat.ensures.outcome in
+    let o = c.try_beat.ensures.outcome in
     record {
       outcome = o;
-      heals = goes_on k met.reflexive met.exact beat_fault (Beat (g.H.Host.meaning c.args.host.now)) c.try-beat.result (board c.args.self.now) (board c.try-beat.new.self) o;
-      same = c.try-beat.ensures.same;
+      heals = goes_on k met.reflexive met.exact beat_fault (Beat (g.H.Host.meaning c.args.host.now)) c.try_beat.result (board c.args.self.now) (board c.try_beat.new.self) o;
+      same = c.try_beat.ensures.same;
     }

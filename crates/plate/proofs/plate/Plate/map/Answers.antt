@@ -8,8 +8,8 @@ pub returns : goal.returns
 returns g c =
     let k = members g.C.Kind.equal g.C.Kind.byte_of g.C.Kind.cell_of in
     let met = g.met.C.Kind in
-    let o = c.try-map.ensures in
+    let o = c.try_map.ensures in
     record {
       outcome = o;
-      heals = goes_on k met.reflexive met.exact map_fault (Map c.args.out.now c.try-map.new.out) c.try-map.result (board c.args.self.now) (board c.args.self.now) o;
+      heals = goes_on k met.reflexive met.exact map_fault (Map c.args.out.now c.try_map.new.out) c.try_map.result (board c.args.self.now) (board c.args.self.now) o;
     }

@@ -8,8 +8,8 @@ pub returns : goal.returns
 returns g c =
     let k = members g.C.Kind.equal g.C.Kind.byte_of g.C.Kind.cell_of in
     let met = g.met.C.Kind in
-    let o = c.try-read.ensures in
+    let o = c.try_read.ensures in
     record {
       outcome = o;
-      heals = goes_on k met.reflexive met.exact read_fault (Read c.args.out.now c.try-read.new.out) c.try-read.result (board c.args.self.now) (board c.args.self.now) o;
+      heals = goes_on k met.reflexive met.exact read_fault (Read c.args.out.now c.try_read.new.out) c.try_read.result (board c.args.self.now) (board c.args.self.now) o;
     }

@@ -8,8 +8,8 @@ pub returns : goal.returns
 returns g c =
     let k = members g.C.Kind.equal g.C.Kind.byte_of g.C.Kind.cell_of in
     let met = g.met.C.Kind in
-    let o = c.try-shadow.ensures in
+    let o = c.try_shadow.ensures in
     record {
       outcome = o;
-      heals = goes_on k met.reflexive met.exact shadow_fault (Show c.args.out.now c.try-shadow.new.out) c.try-shadow.result (board c.args.self.now) (board c.args.self.now) o;
+      heals = goes_on k met.reflexive met.exact shadow_fault (Show c.args.out.now c.try_shadow.new.out) c.try_shadow.result (board c.args.self.now) (board c.args.self.now) o;
     }

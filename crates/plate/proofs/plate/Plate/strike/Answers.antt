@@ -8,9 +8,9 @@ pub returns : goal.returns
 returns g c =
     let k = members g.C.Kind.equal g.C.Kind.byte_of g.C.Kind.cell_of in
     let met = g.met.C.Kind in
-    let o = c.try-strike.ensures.outcome in
+    let o = c.try_strike.ensures.outcome in
     record {
       outcome = o;
-      heals = goes_on k met.reflexive met.exact strike_fault (Strike c.args.plane c.args.row c.args.column c.args.byte) c.try-strike.result (board c.args.self.now) (board c.try-strike.new.self) o;
-      same = c.try-strike.ensures.same;
+      heals = goes_on k met.reflexive met.exact strike_fault (Strike c.args.plane c.args.row c.args.column c.args.byte) c.try_strike.result (board c.args.self.now) (board c.try_strike.new.self) o;
+      same = c.try_strike.ensures.same;
     }

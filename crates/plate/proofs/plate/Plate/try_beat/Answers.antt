@@ -7,12 +7,12 @@ use Rattle.plate.proofs.plate.Plate.try_beat.Goals as goal
 
 pub returns : goal.returns
 returns g c =
-    let l = c.in-ok-laid.laid in
+    let l = c.in_ok-laid.laid in
     let b = board c.args.self.now in
-    let stands : standing b ≡ Some l = sym c.standing.ensures ∙ c.in-ok-laid.ensures.ok-part in
+    let stands : standing b ≡ Some l = sym c.standing.ensures ∙ c.in_ok-laid.ensures.ok_part in
     record {
       outcome = (
-        ap beat_questions_of stands ∙ cond-true _ _ _ (lt-ltb l.age 1048575 c.if-laid-ge-MAX-AGE.false),
+        ap beat_questions_of stands ∙ cond-true _ _ _ (lt-ltb l.age 1048575 c.if-laid-ge-MAX_AGE.false),
         record {
           stood = l;
           kept = _;
@@ -22,8 +22,8 @@ returns g c =
           age = refl;
           shadow = c.vote.ensures;
           cells =
-              subst (λ s. CellsBeaten g.C.Kind.equal (g.H.Host.meaning c.args.host.now) l.planes s b.cells c.beat-cells.new.cells)
-              c.side-side.ensures c.beat-cells.ensures;
+              subst (λ s. CellsBeaten g.C.Kind.equal (g.H.Host.meaning c.args.host.now) l.planes s b.cells c.beat_cells.new.cells)
+              c.side-side.ensures c.beat_cells.ensures;
         },
       );
       same = refl;

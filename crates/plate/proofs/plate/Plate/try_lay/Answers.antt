@@ -2,13 +2,13 @@ use Rattle.std.proofs.Common.{length, refl}
 use Rattle.plate.proofs.Accepted.{lay_room, lay_few, lay_narrow, lay_long, lay_names}
 use Rattle.plate.proofs.plate.Plate.try_lay.Goals as goal
 
-pub lay-cells-requires : goal.lay-cells-requires
-lay-cells-requires g c =
+pub lay_cells-requires : goal.lay_cells-requires
+lay_cells-requires g c =
     let k = g.C.Kind.cell_of in
     let n = c.args.planes in
     let tape = c.args.tape.now in
     let memory = length c.args.self.now.cells.now in
-    let good = c.in-ok-shadow.ensures.0 in
+    let good = c.in_ok-shadow.ensures.0 in
     record {
       within = lay_room k n c.args.side tape memory good;
       long = lay_long k n c.args.side tape memory good;
@@ -19,11 +19,11 @@ lay-cells-requires g c =
 
 pub returns : goal.returns
 returns g c =
-    let checked = c.in-ok-shadow.ensures in
+    let checked = c.in_ok-shadow.ensures in
     record {
       outcome = (
         checked.0,
-        record { kept = _; stands = refl; planes = refl; age = refl; shadow = checked.1; cells = c.lay-cells.ensures },
+        record { kept = _; stands = refl; planes = refl; age = refl; shadow = checked.1; cells = c.lay_cells.ensures },
       );
       same = refl;
     }

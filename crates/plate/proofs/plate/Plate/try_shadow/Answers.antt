@@ -6,24 +6,24 @@ use Rattle.plate.specs.Plates.{board}
 use Rattle.plate.specs.ShadowCall.{shadow_refusal, shadow_questions, shadow_questions_of}
 use Rattle.plate.proofs.plate.Plate.try_shadow.Goals as goal
 
-pub returns-in-err-write : goal.returns-in-err-write
-returns-in-err-write g c =
-    let l = c.in-ok-laid.laid in
+pub returns-in_err-write : goal.returns-in_err-write
+returns-in_err-write g c =
+    let l = c.in_ok-laid.laid in
     let b = board c.args.self.now in
     let room = length c.args.out.now in
-    let stands : standing b ≡ Some l = sym c.standing.ensures ∙ c.in-ok-laid.ensures.ok-part in
-    let left = c.in-err-write.ensures in
+    let stands : standing b ≡ Some l = sym c.standing.ensures ∙ c.in_ok-laid.ensures.ok_part in
+    let left = c.in_err-write.ensures in
     let refused : shadow_questions b room ≡ Some (shadow_refusal 15) =
     ap (λ o. shadow_questions_of o room) stands ∙ cond-false _ _ _ (lt-leb (side_of l) room left.0) in
-    let p = err_from_is_err_and c.from-residual-in-err-write.result c.from-residual-in-err-write.ensures.1 in
+    let p = err_from_is_err_and c.from_residual-in_err-write.result c.from_residual-in_err-write.ensures.1 in
     rw (p.1, p.2) (refused, (ap is_some refused, left.1, refl))
 
 pub returns : goal.returns
 returns g c =
-    let l = c.in-ok-laid.laid in
+    let l = c.in_ok-laid.laid in
     let b = board c.args.self.now in
-    let stands : standing b ≡ Some l = sym c.standing.ensures ∙ c.in-ok-laid.ensures.ok-part in
-    let left = c.in-ok-write.ensures in (
+    let stands : standing b ≡ Some l = sym c.standing.ensures ∙ c.in_ok-laid.ensures.ok_part in
+    let left = c.in_ok-write.ensures in (
       ap (λ o. shadow_questions_of o (length c.args.out.now)) stands ∙ cond-true _ _ _ (le-leb (side_of l) (length c.args.out.now) left.0),
       (record { stood = l; standing_before = stands; out = left.1 }, refl),
     )
