@@ -4,7 +4,7 @@ use Rattle.thin.proofs.Pieces.{line_ended, line_last}
 use Rattle.thin.proofs.input.cut_line.Goals as goal
 
 pub returns-then-length-text : goal.returns-then-length-text
-returns-then-length-text c = rw (sub-zero, take_rest) (line_ended c.args.text.now c.line-length-length.ensures c.if-length-text.true)
+returns-then-length-text c = rw (sub-zero, take_rest) (line_ended c.args.text.now c.line_length-length.ensures c.if-length-text.true)
 
 pub returns-else-length-text : goal.returns-else-length-text
-returns-else-length-text c = line_last c.args.text.now c.line-length-length.ensures c.if-length-text.false
+returns-else-length-text c = line_last c.args.text.now c.line_length-length.ensures c.if-length-text.false

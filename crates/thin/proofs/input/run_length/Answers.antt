@@ -9,13 +9,13 @@ loop-length-init c = passed_none _ _
 pub loop-length-preserved : goal.loop-length-preserved
 loop-length-preserved c =
     passed_more c.loop-length.invariant c.loop-length-test.true
-    (sym (ap (λ b. beq b c.args.blank) c.blank-byte.ensures) ∙ c.if-blank-byte-blank.true)
+    (sym (ap (λ b. beq b c.args.blank) c.blank_byte.ensures) ∙ c.if-blank_byte-blank.true)
 
-pub returns-else-blank-byte-blank : goal.returns-else-blank-byte-blank
-returns-else-blank-byte-blank c = record {
+pub returns-else-blank_byte-blank : goal.returns-else-blank_byte-blank
+returns-else-blank_byte-blank c = record {
   within = c.loop-length.invariant.within;
   value = stops c.loop-length.invariant c.loop-length-test.true
-      (sym (ap (λ b. beq b c.args.blank) c.blank-byte.ensures) ∙ c.if-blank-byte-blank.false);
+      (sym (ap (λ b. beq b c.args.blank) c.blank_byte.ensures) ∙ c.if-blank_byte-blank.false);
 }
 
 pub returns-after-loop-length : goal.returns-after-loop-length

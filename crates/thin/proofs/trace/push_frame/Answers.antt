@@ -7,6 +7,6 @@ use Rattle.thin.proofs.trace.push_frame.Goals as goal
 pub returns : goal.returns
 returns c =
     let shadow = c.args.shadow.now in
-    then_last c.push-count.result (string_bytes c.push-count.new.text) (string_bytes c.args.text.now)
+    then_last c.push_count.result (string_bytes c.push_count.new.text) (string_bytes c.args.text.now)
     (picture shadow.side (marks shadow)) (count_line shadow.side (marks shadow))
-    c.in-ok-push-picture.ensures c.push-count.ensures
+    c.in_ok-push_picture.ensures c.push_count.ensures

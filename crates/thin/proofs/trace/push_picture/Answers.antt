@@ -7,4 +7,4 @@ use Rattle.thin.proofs.trace.push_picture.Goals as goal
 pub loop-row-preserved : goal.loop-row-preserved
 loop-row-preserved c =
     joined_more_row (row_line c.args.shadow.now.side (marks c.args.shadow.now)) (string_bytes c.args.text.now) c.loop-row.row
-    c.loop-row.invariant c.in-ok-push-row.ensures
+    c.loop-row.invariant c.in_ok-push_row.ensures

@@ -4,20 +4,20 @@ use Rattle.thin.proofs.trace.thinning.Goals as goal
 
 pub returns-in-Some : goal.returns-in-Some
 returns-in-Some c = record {
-  text = last c.loop-text.invariant c.in-Some.ending c.in-Some.ensures.cases c.in-ok-push-frame.ensures
-      c.in-ok-push-ending.ensures;
+  text = last c.loop-text.invariant c.in-Some.ending c.in-Some.ensures.cases c.in_ok-push_frame.ensures
+      c.in_ok-push_ending.ensures;
   pinned = thinning_pins;
 }
 
 pub loop-text-smaller : goal.loop-text-smaller
-loop-text-smaller c = omega (arith, early c.loop-text.invariant c.in-default.ensures.cases)
+loop-text-smaller c = omega (arith, early c.loop-text.invariant c.in_default.ensures.cases)
 
 pub loop-text-preserved : goal.loop-text-preserved
 loop-text-preserved c =
-    one_more c.loop-text.invariant c.vote-or-end.ensures.after c.in-default.ensures.cases c.in-ok-push-frame.ensures
+    one_more c.loop-text.invariant c.vote_or_end.ensures.after c.in_default.ensures.cases c.in_ok-push_frame.ensures
 
-pub returns-in-err-push-frame : goal.returns-in-err-push-frame
-returns-in-err-push-frame c = record { text = search rules; pinned = thinning_pins }
+pub returns-in_err-push_frame : goal.returns-in_err-push_frame
+returns-in_err-push_frame c = record { text = search rules; pinned = thinning_pins }
 
-pub returns-in-err-push-ending : goal.returns-in-err-push-ending
-returns-in-err-push-ending c = record { text = search rules; pinned = thinning_pins }
+pub returns-in_err-push_ending : goal.returns-in_err-push_ending
+returns-in_err-push_ending c = record { text = search rules; pinned = thinning_pins }

@@ -9,7 +9,7 @@ returns-then-votes-side c = record {
   cases = (
     c.if-votes-side.true ∙ ap₂ ◌*◌ c.side.ensures c.side-else-eq.ensures,
     λ none. c.if-count-eq0.false (c.count.ensures ∙ none),
-    moved c.args.shadow.now c.vote.new.self (marks_pin) c.vote.ensures c.if-eq.ensures,
+    moved c.args.shadow.now c.vote.new.self (marks_pin) c.vote.ensures c.if-eq.ensures.decides,
   );
 }
 
@@ -18,6 +18,6 @@ returns-else-votes-side c = record {
   after = c.vote.ensures;
   cases = goes_on
       (λ none. c.if-count-eq0.false (c.count.ensures ∙ none))
-      (moved c.args.shadow.now c.vote.new.self (marks_pin) c.vote.ensures c.if-eq.ensures)
+      (moved c.args.shadow.now c.vote.new.self (marks_pin) c.vote.ensures c.if-eq.ensures.decides)
       (λ e. c.if-votes-side.false (e ∙ sym (ap₂ ◌*◌ c.side.ensures c.side-else-eq.ensures)));
 }
