@@ -1,5 +1,5 @@
 -- Beats one after another on a plate that is young enough for them.
-use Rattle.std.proofs.Common.{◌≡◌, ℕ, suc, ◌+◌, ◌<◌, true, List, Some, None, Option, sym, refl, ◌∙◌, subst, add-one, arith}
+use Rattle.std.proofs.Common.{◌≡◌, ℕ, ◌+◌, ◌<◌, true, Some, None, Option, sym, subst, add-one, arith}
 use Rattle.hosts.specs.Refusal.{Refusal}
 use Rattle.plate.specs.BeatCall.{beat_questions}
 use Rattle.plate.specs.Board.{Board}

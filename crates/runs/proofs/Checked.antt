@@ -1,11 +1,11 @@
 -- The questions of a script, record by record.
-use Rattle.std.proofs.Common.{◌≡◌, ℕ, ◌+◌, ◌%◌, ◌<◌, ◌≤◌, true, ◌&&◌, eqb, leb, List, length, Some, None, Option, sym, refl, ap, ◌∙◌, subst, add-one, arith}
+use Rattle.std.proofs.Common.{◌≡◌, ℕ, ◌+◌, ◌%◌, ◌<◌, ◌≤◌, ◌&&◌, eqb, leb, List, length, Some, None, Option, sym, refl, ap, ◌∙◌, subst, add-one, arith}
 use Rattle.std.proofs.lemmas.Bool.{cond-true}
 use Rattle.std.proofs.lemmas.Bool.Decides.{nat_tests}
 use Rattle.hosts.specs.Refusal.{Refusal, ask_each}
 use Rattle.hosts.proofs.Questions.{asked_more, asked_first}
 use Rattle.runs.specs.declared.record.Record.{Record}
-use Rattle.runs.specs.RunCall.{number_before, record_asked, record_questions, run_refusal, script_questions}
+use Rattle.runs.specs.RunCall.{number_before, record_asked, record_questions, script_questions}
 use Rattle.runs.specs.Script.{records_in, record_in}
 
 pub number_next : (script : List ℕ) (k m : ℕ) (r : Record) → m ≡ k + 1 → r ≡ record_in script k → r.number ≡ number_before script m

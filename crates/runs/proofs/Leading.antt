@@ -1,5 +1,5 @@
 -- Calls that lead from plate to plate, one after another; and the histories that they carry on.
-use Rattle.std.proofs.Common.{◌≡◌, true, List, [], ◌∷◌, ◌++◌, sym, refl, subst}
+use Rattle.std.proofs.Common.{true, List, [], ◌∷◌, ◌++◌, sym, refl, subst}
 use Rattle.plate.specs.Board.{Board}
 use Rattle.plate.specs.History.{Call, History, Outcome, Reached, more}
 use Rattle.plate.specs.Members.{Members}

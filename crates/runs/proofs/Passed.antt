@@ -1,12 +1,12 @@
 -- What is known of a run that no question refused: its numbers rise, none is past the beats, and each record's strike is in order.
-use Rattle.std.proofs.Common.{◌≡◌, ℕ, zero, suc, ◌+◌, ◌<◌, ◌≤◌, List, Some, None, Option, sym, refl, ap, ◌∙◌, subst, inl, inr, arith}
+use Rattle.std.proofs.Common.{◌≡◌, ℕ, zero, suc, ◌+◌, ◌<◌, ◌≤◌, List, Some, None, Option, refl, subst, inl, inr, arith}
 use Rattle.std.proofs.lemmas.Bool.{cases_lt}
 use Rattle.std.proofs.lemmas.Bool.Decides.{nat_tests}
 use Rattle.std.specs.Option.{option_map}
 use Rattle.hosts.specs.Refusal.{ask_each}
 use Rattle.hosts.proofs.Questions.{asked_each}
 use Rattle.plate.specs.StrikeCall.{place_questions}
-use Rattle.runs.specs.RunCall.{moved, number_before, record_questions, run_refusal, shape_questions}
+use Rattle.runs.specs.RunCall.{moved, number_before, record_questions, shape_questions}
 use Rattle.runs.specs.Script.{records_in, record_in}
 
 mapped_none : {X Y : Type 0} (f : X → Y) (o : Option X) → option_map f o ≡ None → o ≡ None

@@ -1,5 +1,5 @@
 -- A run whose questions have passed, record by record: what it has led to, and that no strike and no beat of it is refused.
-use Rattle.std.proofs.Common.{◌≡◌, ℕ, zero, ◌+◌, ◌-◌, ◌<◌, ◌≤◌, true, List, [], ◌∷◌, Some, None, Ok, Err, Option, Result, sym, refl, ap, ◌∙◌, subst, add-one, arith, MatchResult}
+use Rattle.std.proofs.Common.{◌≡◌, ℕ, ◌+◌, ◌-◌, ◌<◌, ◌≤◌, true, List, Some, None, Ok, Err, Option, Result, sym, refl, ap, ◌∙◌, subst, arith, MatchResult}
 use Rattle.plate.specs.declared.fault.StrikeFault.{StrikeFault}
 use Rattle.plate.specs.declared.laid.Laid.{Laid}
 use Rattle.plate.specs.Board.{Board, side_of, standing}
@@ -16,7 +16,6 @@ use Rattle.runs.specs.Place.{with_place}
 use Rattle.runs.specs.RunCall.{calls_of_run, calls_upto, number_before, run_questions, run_questions_of, shape_questions, strike_of}
 use Rattle.runs.specs.Script.{records_in, record_in}
 use Rattle.runs.proofs.Beating.{not_both, older_0}
-use Rattle.runs.proofs.Checked.{number_next}
 use Rattle.runs.proofs.Leading.{leads_on, leads_one}
 use Rattle.runs.proofs.Passed.{passed_age, passed_before, passed_last, passed_number, passed_order, passed_strike}
 use Rattle.runs.proofs.Shapes.{strike_passes, struck_on}

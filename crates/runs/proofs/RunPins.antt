@@ -1,5 +1,5 @@
 -- A run's outcome pins its end: each of its calls does, and a refusal leaves everything.
-use Rattle.std.proofs.Common.{◌≡◌, ℕ, true, cond, eqb, List, [], ◌∷◌, get_or, Some, Ok, Err, Result, sym, refl, ap, ◌∙◌, subst, arith}
+use Rattle.std.proofs.Common.{◌≡◌, true, cond, eqb, List, [], ◌∷◌, get_or, Ok, Err, sym, refl, ap, ◌∙◌, subst}
 use Rattle.hosts.specs.Refusal.{Refusal}
 use Rattle.plate.specs.declared.fault.StrikeFault.TheVariants as strikes
 use Rattle.plate.specs.Board.{Board}

@@ -1,5 +1,5 @@
 -- Where the reader of a script stands among the records.
-use Rattle.std.proofs.Common.{◌≡◌, ℕ, ◌+◌, ◌<◌, ◌≤◌, List, Some, None, sym, ap, ◌∙◌, subst, arith}
+use Rattle.std.proofs.Common.{◌≡◌, ℕ, ◌+◌, ◌<◌, ◌≤◌, List, Some, None, ap, ◌∙◌, subst, arith}
 use Rattle.std.specs.declared.iter.Enumerate.{Enumerate}
 use Rattle.runs.specs.declared.record.Record.{Record}
 use Rattle.runs.specs.declared.script.Script.{Script}

@@ -1,5 +1,4 @@
 use Rattle.std.proofs.Common.{◌≡◌, refl, ◌∙◌, subst, arith}
-use Rattle.std.proofs.lemmas.Result.{err_from_is_err_and}
 use Rattle.plate.specs.Plates.{board, members}
 use Rattle.runs.specs.Leads.{Leads, Older, beats_alone}
 use Rattle.runs.proofs.Beating.{beats_more, never_refused, older_0, older_more}
@@ -15,18 +14,18 @@ loop-preserved g c =
     let start = board c.args.plate.now in
     let b = board c.loop.plate in
     let b' = board c.beat.new.self in
-    let outcome = c.in-ok-beat.ensures.outcome in (
+    let outcome = c.in_ok-beat.ensures.outcome in (
       beats_more k host start b b' c.loop.counter c.loop.invariant.0 outcome,
       older_more k host start b b' c.loop.counter c.loop.invariant.1 outcome,
       c.beat.ensures.same ∙ c.loop.invariant.2,
     )
 
-pub returns-in-err-beat : goal.returns-in-err-beat
-returns-in-err-beat g c =
+pub returns-in_err-beat : goal.returns-in_err-beat
+returns-in_err-beat g c =
     let k = members g.C.Kind.equal g.C.Kind.byte_of g.C.Kind.cell_of in
     absurd
     (never_refused k (g.H.Host.meaning c.args.host.now) (board c.args.plate.now) (board c.loop.plate) (board c.beat.new.self) c.loop.counter
-    c.args.times c.requires c.loop.invariant.1 (omega arith) _ c.in-err-beat.ensures.outcome.0)
+    c.args.times c.requires c.loop.invariant.1 (omega arith) _ c.in_err-beat.ensures.outcome.0)
 
 pub returns : goal.returns
 returns g c =

@@ -6,11 +6,11 @@ pub returns : goal.returns
 returns g c =
     let k = members g.C.Kind.equal g.C.Kind.byte_of g.C.Kind.cell_of in
     let met = g.met.C.Kind in
-    let o = c.try-run.ensures.outcome in
+    let o = c.try_run.ensures.outcome in
     record {
       outcome = o;
       heals =
           run_goes_on k met.reflexive met.exact (g.H.Host.meaning c.args.host.now) c.args.script.now c.args.beats
-          c.try-run.result (board c.args.plate.now) (board c.try-run.new.plate) o;
-      same = c.try-run.ensures.same;
+          c.try_run.result (board c.args.plate.now) (board c.try_run.new.plate) o;
+      same = c.try_run.ensures.same;
     }
