@@ -1,15 +1,12 @@
 -- A round that was laid and run is laid still, so its report is not refused.
-use Rattle.std.proofs.Common.{◌≡◌, ℕ, ◌≤◌, true, leb, List, [], ◌∷◌, Some, None, sym, refl, ap, ◌∙◌, subst}
+use Rattle.std.proofs.Common.{◌≡◌, ℕ, ◌≤◌, true, leb, List, [], ◌∷◌, Some, None, refl, ap, ◌∙◌, subst}
 use Rattle.std.proofs.lemmas.Bool.{cond-true, le-leb}
-use Rattle.hosts.specs.Refusal.{Refusal}
-use Rattle.plate.specs.declared.laid.Laid.{Laid}
-use Rattle.plate.specs.Board.{Board, standing}
+use Rattle.plate.specs.Board.{Board}
 use Rattle.plate.specs.Healing.{Healing, Matches}
 use Rattle.plate.specs.History.{Call, Lay, Strike, Beat, Read, Map, Show, History, Reached, new}
 use Rattle.plate.specs.Members.{Members}
 use Rattle.plate.specs.Plain.{Plain, after_call, plain}
 use Rattle.runs.specs.Leads.{with_calls}
-use Rattle.runs.proofs.Beating.{not_both}
 use Rattle.reports.specs.ReportCall.{report_questions, report_questions_of}
 
 -- A new plate is bare.

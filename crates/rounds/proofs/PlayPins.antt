@@ -4,7 +4,6 @@ use Rattle.hosts.specs.declared.machine.fault.MachineFault.TheVariants as machin
 use Rattle.hosts.specs.Refusal.{Refusal}
 use Rattle.plate.specs.declared.fault.LayFault.TheVariants as lays
 use Rattle.plate.specs.declared.fault.StrikeFault.TheVariants as strikes
-use Rattle.plate.specs.Board.{Board}
 use Rattle.plate.specs.History as calls
 use Rattle.plate.specs.Members.{Members}
 use Rattle.plate.proofs.PinnedFaults.{undone}

@@ -1,7 +1,6 @@
 -- A performed round is the play of its file, and the healing laws hold of it.
 use Rattle.std.proofs.Common.{◌≡◌, ℕ, true, List, [], ◌∷◌, length, None, Ok, Err, Result, MatchResult}
 use mathlib.Core.Path.{transport}
-use Rattle.plate.specs.Board.{Board}
 use Rattle.plate.specs.History.{Lay, new, more}
 use Rattle.plate.specs.Members.{Members}
 use Rattle.plate.proofs.Heals.{always_heals}

@@ -1,12 +1,12 @@
 -- What is written lies within the output.
-use Rattle.std.proofs.Common.{◌≡◌, ℕ, ◌≤◌, List, ◌++◌, length, drop, IfOk, Ok, Err, Result, sym, ap, ◌∙◌, subst, arith}
+use Rattle.std.proofs.Common.{◌≡◌, ℕ, ◌≤◌, List, ◌++◌, length, drop, IfOk, Ok, Err, Result, ap, arith}
 use Rattle.std.proofs.lemmas.List.{length-append}
 use Rattle.plate.specs.Members.{Members}
 use Rattle.reports.specs.Report.{report_of}
 use Rattle.plate.proofs.PinnedEffects.{some_cell}
 use Rattle.rounds.specs.declared.fault.PlayFault.{PlayFault}
 use Rattle.rounds.specs.declared.fault.RefusedFault.{RefusedFault}
-use Rattle.rounds.specs.PlayCall.{Entrant, PlayAnswers, play_fault}
+use Rattle.rounds.specs.PlayCall.{Entrant, PlayAnswers}
 use Rattle.rounds.specs.RefusedCall.{RefusedAnswers, refused_line}
 use Rattle.hosts.specs.Refusal.{Refusal}
 

@@ -63,14 +63,14 @@ pub struct Refusal {
 
 // A fault that can be told.
 pub trait Fault: Copy {
-    ghost refusalOf: { Self → refusals.Refusal };
+    ghost refusal: { Self → refusals.Refusal };
 
     fn refusal(self) -> Refusal
-        ensures { told result ≡ refusalOf self };
+        ensures { told result ≡ refusal self };
 }
 
 impl Fault for LayFault {
-    ghost refusalOf = { lay_fault };
+    ghost refusal = { lay_fault };
 
     fn refusal(self) -> Refusal {
         let (number, place) = match self {
@@ -89,7 +89,7 @@ impl Fault for LayFault {
 }
 
 impl Fault for StrikeFault {
-    ghost refusalOf = { strike_fault };
+    ghost refusal = { strike_fault };
 
     fn refusal(self) -> Refusal {
         let number = match self {
@@ -107,7 +107,7 @@ impl Fault for StrikeFault {
 }
 
 impl Fault for BeatFault {
-    ghost refusalOf = { beat_fault };
+    ghost refusal = { beat_fault };
 
     fn refusal(self) -> Refusal {
         let number = match self {
@@ -124,7 +124,7 @@ impl Fault for BeatFault {
 
 // A fault of a record's strike keeps its number and its word, and gets the record's index for its place.
 impl Fault for RunFault {
-    ghost refusalOf = { run_fault };
+    ghost refusal = { run_fault };
 
     fn refusal(self) -> Refusal {
         let (number, place) = match self {
@@ -150,7 +150,7 @@ impl Fault for RunFault {
 }
 
 impl Fault for ReadFault {
-    ghost refusalOf = { read_fault };
+    ghost refusal = { read_fault };
 
     fn refusal(self) -> Refusal {
         let (number, place) = match self {
@@ -167,7 +167,7 @@ impl Fault for ReadFault {
 }
 
 impl Fault for MapFault {
-    ghost refusalOf = { map_fault };
+    ghost refusal = { map_fault };
 
     fn refusal(self) -> Refusal {
         let number = match self {
@@ -183,7 +183,7 @@ impl Fault for MapFault {
 }
 
 impl Fault for ShadowFault {
-    ghost refusalOf = { shadow_fault };
+    ghost refusal = { shadow_fault };
 
     fn refusal(self) -> Refusal {
         let number = match self {
@@ -199,7 +199,7 @@ impl Fault for ShadowFault {
 }
 
 impl Fault for ReportFault {
-    ghost refusalOf = { report_fault };
+    ghost refusal = { report_fault };
 
     fn refusal(self) -> Refusal {
         let number = match self {
@@ -215,7 +215,7 @@ impl Fault for ReportFault {
 }
 
 impl Fault for MachineFault {
-    ghost refusalOf = { refusal_of };
+    ghost refusal = { refusal_of };
 
     fn refusal(self) -> Refusal {
         let (number, place) = match self {
@@ -235,7 +235,7 @@ impl Fault for MachineFault {
 }
 
 impl Fault for HostFault {
-    ghost refusalOf = { host_fault };
+    ghost refusal = { host_fault };
 
     fn refusal(self) -> Refusal {
         match self {
@@ -250,7 +250,7 @@ impl Fault for HostFault {
 }
 
 impl Fault for RoundFault {
-    ghost refusalOf = { round_fault };
+    ghost refusal = { round_fault };
 
     fn refusal(self) -> Refusal {
         let number = match self {
@@ -268,7 +268,7 @@ impl Fault for RoundFault {
 }
 
 impl Fault for RefusedFault {
-    ghost refusalOf = { refused_fault };
+    ghost refusal = { refused_fault };
 
     fn refusal(self) -> Refusal {
         match self {
@@ -282,7 +282,7 @@ impl Fault for RefusedFault {
 }
 
 impl Fault for PlayFault {
-    ghost refusalOf = { play_fault };
+    ghost refusal = { play_fault };
 
     fn refusal(self) -> Refusal {
         match self {

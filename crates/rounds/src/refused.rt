@@ -26,7 +26,7 @@ fn refused_line(text: &mut Text<'_>, refusal: Refusal)
 
 // Writes `refused`, number, word and place at the front of the output, and answers the length of that line.
 pub fn refused<F: Fault>(fault: F, out: &mut [u8]) -> Result<usize, RefusedFault>
-    ensures { RefusedAnswers (refusalOf fault) result out.old out.new }
+    ensures { RefusedAnswers (F.refusal fault) result out.old out.new }
 {
     if out.len() < REFUSED_BYTES {
         return Err(RefusedFault::Output);

@@ -26,11 +26,11 @@ loop-column-preserved c =
     (c.requires.row, omega (arith, c.side-side.ensures)) c.loop-column.invariant c.side-side.result c.place_mark.result c.holds.result
     c.side-side.ensures c.holds.ensures
     (c.place_mark.ensures
-    ∙ ap (place_mark (get_or c.args.hurts.now (c.args.row * c.side-side.result + c.loop-column.column) 0)) c.unwrap-or-shadowed.ensures)
+    ∙ ap (place_mark (get_or c.args.hurts.now (c.args.row * c.side-side.result + c.loop-column.column) 0)) c.unwrap_or-shadowed.ensures)
     c.push.ensures
 
-pub end-line-requires : goal.end-line-requires
-end-line-requires c =
+pub end_line-requires : goal.end_line-requires
+end_line-requires c =
     let a = c.args.text.now in
     let row = marks_below c.args.hurts.now c.args.shadow.now c.args.row in
     let last : c.loop-column.column ≡ c.args.shadow.now.side = omega (arith, c.side-side.ensures) in
@@ -42,4 +42,4 @@ returns c =
     let row = marks_below c.args.hurts.now c.args.shadow.now c.args.row in
     let last : c.loop-column.column ≡ c.args.shadow.now.side = omega (arith, c.side-side.ensures) in
     line_written a [] (row c.args.shadow.now.side) c.requires.room (appends_none a) (appends_as (ap row last) c.loop-column.invariant)
-    c.end-line.ensures
+    c.end_line.ensures

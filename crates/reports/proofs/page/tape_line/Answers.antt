@@ -8,28 +8,28 @@ use Rattle.reports.proofs.Texts.{appends_as, appends_none}
 use Rattle.reports.proofs.page.tape_line.Goals as goal
 
 pub loop-byte-init : goal.loop-byte-init
-loop-byte-init c = appends_none c.push-str.new.self
+loop-byte-init c = appends_none c.push_str.new.self
 
-pub push-pair-requires : goal.push-pair-requires
-push-pair-requires c =
+pub push_pair-requires : goal.push_pair-requires
+push_pair-requires c =
     let tape = c.args.tape.now in
-    element_fits pair tape c.push-str.new.self (rest_fits c.args.text.now (codes "tape ") (flat_map pair tape) c.requires c.push-str.ensures)
+    element_fits pair tape c.push_str.new.self (rest_fits c.args.text.now (codes "tape ") (flat_map pair tape) c.requires c.push_str.ensures)
     c.loop-byte.byte-index (omega arith) c.loop-byte.invariant
 
 pub loop-byte-preserved : goal.loop-byte-preserved
 loop-byte-preserved c =
     let tape = c.args.tape.now in
-    element_more pair tape c.push-str.new.self (rest_fits c.args.text.now (codes "tape ") (flat_map pair tape) c.requires c.push-str.ensures)
-    c.loop-byte.byte-index (omega arith) c.loop-byte.invariant c.push-pair.ensures
+    element_more pair tape c.push_str.new.self (rest_fits c.args.text.now (codes "tape ") (flat_map pair tape) c.requires c.push_str.ensures)
+    c.loop-byte.byte-index (omega arith) c.loop-byte.invariant c.push_pair.ensures
 
-pub end-line-requires : goal.end-line-requires
-end-line-requires c =
+pub end_line-requires : goal.end_line-requires
+end_line-requires c =
     let tape = c.args.tape.now in
-    end_fits c.args.text.now (codes "tape ") (flat_map pair tape) c.requires c.push-str.ensures
+    end_fits c.args.text.now (codes "tape ") (flat_map pair tape) c.requires c.push_str.ensures
     (appends_as (ap (flat_map pair) (take_all c.loop-byte.byte-index tape (omega arith))) c.loop-byte.invariant)
 
 pub returns : goal.returns
 returns c =
     let tape = c.args.tape.now in
-    line_written c.args.text.now (codes "tape ") (flat_map pair tape) c.requires c.push-str.ensures
-    (appends_as (ap (flat_map pair) (take_all c.loop-byte.byte-index tape (omega arith))) c.loop-byte.invariant) c.end-line.ensures
+    line_written c.args.text.now (codes "tape ") (flat_map pair tape) c.requires c.push_str.ensures
+    (appends_as (ap (flat_map pair) (take_all c.loop-byte.byte-index tape (omega arith))) c.loop-byte.invariant) c.end_line.ensures

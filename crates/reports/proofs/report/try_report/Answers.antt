@@ -6,30 +6,30 @@ use Rattle.reports.proofs.Reporting.{reports, whole_fits}
 use Rattle.reports.proofs.Told.{map_accepted, map_long, read_accepted, report_asked, told}
 use Rattle.reports.proofs.report.try_report.Goals as goal
 
-pub returns-in-err-map : goal.returns-in-err-map
-returns-in-err-map g c =
+pub returns-in_err-map : goal.returns-in_err-map
+returns-in_err-map g c =
     let k = members g.C.Kind.equal g.C.Kind.byte_of g.C.Kind.cell_of in
-    let l = c.in-ok-laid.laid in
+    let l = c.in_ok-laid.laid in
     let b = board c.args.plate.now in
-    let stands : standing b ≡ Some l = sym c.standing.ensures ∙ c.in-ok-laid.ensures.ok-part in
-    absurd (map_accepted k b l stands 4096 (map_fault c.in-err-map.field-0.0) (omega arith) c.in-err-map.ensures.outcome.0)
+    let stands : standing b ≡ Some l = sym c.standing.ensures ∙ c.in_ok-laid.ensures.ok_part in
+    absurd (map_accepted k b l stands 4096 (map_fault c.in_err-map.field-0.0) (omega arith) c.in_err-map.ensures.outcome.0)
 
-pub returns-in-err-split : goal.returns-in-err-split
-returns-in-err-split g c =
+pub returns-in_err-split : goal.returns-in_err-split
+returns-in_err-split g c =
     let k = members g.C.Kind.equal g.C.Kind.byte_of g.C.Kind.cell_of in
-    let l = c.in-ok-laid.laid in
+    let l = c.in_ok-laid.laid in
     let b = board c.args.plate.now in
-    let stands : standing b ≡ Some l = sym c.standing.ensures ∙ c.in-ok-laid.ensures.ok-part in
-    absurd (read_accepted k b l stands 4096 c.in-err-split.field-0.0 (omega arith) c.in-err-split.ensures)
+    let stands : standing b ≡ Some l = sym c.standing.ensures ∙ c.in_ok-laid.ensures.ok_part in
+    absurd (read_accepted k b l stands 4096 c.in_err-split.field-0.0 (omega arith) c.in_err-split.ensures)
 
 pub page-requires : goal.page-requires
 page-requires g c =
     let k = members g.C.Kind.equal g.C.Kind.byte_of g.C.Kind.cell_of in
-    let l = c.in-ok-laid.laid in
+    let l = c.in_ok-laid.laid in
     let b = board c.args.plate.now in
-    let stands : standing b ≡ Some l = sym c.standing.ensures ∙ c.in-ok-laid.ensures.ok-part in
-    let maps = c.in-ok-map.ensures.outcome.1.0 in
-    let reads = c.in-ok-split.ensures in record {
+    let stands : standing b ≡ Some l = sym c.standing.ensures ∙ c.in_ok-laid.ensures.ok_part in
+    let maps = c.in_ok-map.ensures.outcome.1.0 in
+    let reads = c.in_ok-split.ensures in record {
       map = map_long k b l stands maps reads (omega arith) c.side-side.result c.side-side.ensures (omega arith);
       room = whole_fits k b l stands _ (told k b l stands maps reads (omega arith) c.side-side.result c.side-side.ensures) c.args.out.now
           c.new-text.result c.new-text.ensures.len c.new-text.ensures.bytes (omega arith);
@@ -38,11 +38,11 @@ page-requires g c =
 pub returns : goal.returns
 returns g c =
     let k = members g.C.Kind.equal g.C.Kind.byte_of g.C.Kind.cell_of in
-    let l = c.in-ok-laid.laid in
+    let l = c.in_ok-laid.laid in
     let b = board c.args.plate.now in
-    let stands : standing b ≡ Some l = sym c.standing.ensures ∙ c.in-ok-laid.ensures.ok-part in
-    let maps = c.in-ok-map.ensures.outcome.1.0 in
-    let reads = c.in-ok-split.ensures in (
+    let stands : standing b ≡ Some l = sym c.standing.ensures ∙ c.in_ok-laid.ensures.ok_part in
+    let maps = c.in_ok-map.ensures.outcome.1.0 in
+    let reads = c.in_ok-split.ensures in (
       report_asked k b l stands (length c.args.out.now) (omega arith),
       reports k b l stands _ (told k b l stands maps reads (omega arith) c.side-side.result c.side-side.ensures) c.args.out.now
           c.new-text.result c.new-text.ensures.len c.new-text.ensures.bytes c.page.ensures c.len.ensures (search rules),

@@ -8,8 +8,8 @@ pub perform-requires : goal.perform-requires
 perform-requires g c =
     let k = members g.C.Kind.equal g.C.Kind.byte_of g.C.Kind.cell_of in
     let e = entrant g.H.Entry.number g.H.Entry.questions g.H.Entry.is_in g.H.Host.meaning in
-    let round = c.in-ok-round.round in
-    let admitted = c.in-ok-round.ensures in
+    let round = c.in_ok-round.round in
+    let admitted = c.in_ok-round.ensures in
     record {
       lays = lay_passed k e c.args.file.now _ _ round admitted.1 admitted.0;
       runs = run_passed k e c.args.file.now _ _ round admitted.1 admitted.0;
@@ -21,11 +21,11 @@ returns g c =
     let k = members g.C.Kind.equal g.C.Kind.byte_of g.C.Kind.cell_of in
     let met = g.met.C.Kind in
     let e = entrant g.H.Entry.number g.H.Entry.questions g.H.Entry.is_in g.H.Host.meaning in
-    let admitted = c.in-ok-round.ensures in
+    let admitted = c.in_ok-round.ensures in
     record {
       outcome =
           performed k e c.args.file.now c.args.memory.now c.perform.new.memory c.args.out.now c.perform.new.out c.perform.result
-          c.in-ok-round.round c.in-ok-round.host admitted.0 admitted.1 admitted.2 c.perform.ensures;
+          c.in_ok-round.round c.in_ok-round.host admitted.0 admitted.1 admitted.2 c.perform.ensures;
       heals =
           play_heals k e c.args.file.now c.args.memory.now c.perform.new.memory c.args.out.now c.perform.new.out met.reflexive
           met.exact c.perform.result;

@@ -2,8 +2,8 @@ use Rattle.std.proofs.Common.{◌^◌, ◌<◌, length, ap, arith, rules}
 use Rattle.rounds.proofs.RefusedRoom.{refused_fits}
 use Rattle.rounds.proofs.refused.refused.Goals as goal
 
-pub refused-line-requires : goal.refused-line-requires
-refused-line-requires g c =
+pub refused_line-requires : goal.refused_line-requires
+refused_line-requires g c =
     let r = c.refusal-refusal.result in
     let number : r.number < 256 = search rules in
     let place : r.place < 2 ^ 64 = search rules in

@@ -1,4 +1,4 @@
-use Rattle.std.proofs.Common.{◌≡◌, ℕ, List, [], ◌∷◌, ◌++◌, codes, decimal, sym, subst}
+use Rattle.std.proofs.Common.{ℕ, List, [], ◌∷◌, ◌++◌, codes, decimal, sym, subst}
 use Rattle.reports.specs.Text.{Fits}
 use Rattle.reports.proofs.Texts.{appends_as, appends_more, fits_front, fits_more}
 use Rattle.rounds.specs.declared.refusal.Refusal.{Refusal}
@@ -24,66 +24,66 @@ after_number r = codes " " ++ after_space r
 abbrev after_refused : Refusal → List ℕ
 after_refused r = decimal r.number ++ after_number r
 
-pub push-decimal-requires : goal.push-decimal-requires
-push-decimal-requires c =
+pub push_decimal-requires : goal.push_decimal-requires
+push_decimal-requires c =
     let r = c.args.refusal in
-    fits_front c.push-str.new.self (decimal r.number) (after_number r) (fits_more c.push-str.ensures (after_refused r) c.requires)
+    fits_front c.push_str.new.self (decimal r.number) (after_number r) (fits_more c.push_str.ensures (after_refused r) c.requires)
 
-pub push-str-requires-2 : goal.push-str-requires-2
-push-str-requires-2 c =
+pub push_str-requires-2 : goal.push_str-requires-2
+push_str-requires-2 c =
     let r = c.args.refusal in
-    let left = fits_more c.push-str.ensures (after_refused r) c.requires in
-    fits_front c.push-decimal.new.self (codes " ") (after_space r) (fits_more c.push-decimal.ensures (after_number r) left)
+    let left = fits_more c.push_str.ensures (after_refused r) c.requires in
+    fits_front c.push_decimal.new.self (codes " ") (after_space r) (fits_more c.push_decimal.ensures (after_number r) left)
 
-pub push-str-requires-3 : goal.push-str-requires-3
-push-str-requires-3 c =
+pub push_str-requires-3 : goal.push_str-requires-3
+push_str-requires-3 c =
     let r = c.args.refusal in
-    let left = fits_more c.push-str.ensures (after_refused r) c.requires in
-    let left = fits_more c.push-decimal.ensures (after_number r) left in
-    let left = fits_more c.push-str-2.ensures (after_space r) left in
-    subst (Fits c.push-str-2.new.self) (sym c.text.ensures) (fits_front c.push-str-2.new.self (word_text r.word) (after_word r) left)
+    let left = fits_more c.push_str.ensures (after_refused r) c.requires in
+    let left = fits_more c.push_decimal.ensures (after_number r) left in
+    let left = fits_more c.push_str-2.ensures (after_space r) left in
+    subst (Fits c.push_str-2.new.self) (sym c.text.ensures) (fits_front c.push_str-2.new.self (word_text r.word) (after_word r) left)
 
-pub push-str-requires-4 : goal.push-str-requires-4
-push-str-requires-4 c =
+pub push_str-requires-4 : goal.push_str-requires-4
+push_str-requires-4 c =
     let r = c.args.refusal in
-    let left = fits_more c.push-str.ensures (after_refused r) c.requires in
-    let left = fits_more c.push-decimal.ensures (after_number r) left in
-    let left = fits_more c.push-str-2.ensures (after_space r) left in
-    let left = fits_more (appends_as c.text.ensures c.push-str-3.ensures) (after_word r) left in
-    fits_front c.push-str-3.new.self (codes " ") (after_blank r) left
+    let left = fits_more c.push_str.ensures (after_refused r) c.requires in
+    let left = fits_more c.push_decimal.ensures (after_number r) left in
+    let left = fits_more c.push_str-2.ensures (after_space r) left in
+    let left = fits_more (appends_as c.text.ensures c.push_str-3.ensures) (after_word r) left in
+    fits_front c.push_str-3.new.self (codes " ") (after_blank r) left
 
-pub push-decimal-requires-2 : goal.push-decimal-requires-2
-push-decimal-requires-2 c =
+pub push_decimal-requires-2 : goal.push_decimal-requires-2
+push_decimal-requires-2 c =
     let r = c.args.refusal in
-    let left = fits_more c.push-str.ensures (after_refused r) c.requires in
-    let left = fits_more c.push-decimal.ensures (after_number r) left in
-    let left = fits_more c.push-str-2.ensures (after_space r) left in
-    let left = fits_more (appends_as c.text.ensures c.push-str-3.ensures) (after_word r) left in
-    let left = fits_more c.push-str-4.ensures (after_blank r) left in
-    fits_front c.push-str-4.new.self (decimal r.place) after_place left
+    let left = fits_more c.push_str.ensures (after_refused r) c.requires in
+    let left = fits_more c.push_decimal.ensures (after_number r) left in
+    let left = fits_more c.push_str-2.ensures (after_space r) left in
+    let left = fits_more (appends_as c.text.ensures c.push_str-3.ensures) (after_word r) left in
+    let left = fits_more c.push_str-4.ensures (after_blank r) left in
+    fits_front c.push_str-4.new.self (decimal r.place) after_place left
 
 pub push-requires : goal.push-requires
 push-requires c =
     let r = c.args.refusal in
-    let left = fits_more c.push-str.ensures (after_refused r) c.requires in
-    let left = fits_more c.push-decimal.ensures (after_number r) left in
-    let left = fits_more c.push-str-2.ensures (after_space r) left in
-    let left = fits_more (appends_as c.text.ensures c.push-str-3.ensures) (after_word r) left in
-    let left = fits_more c.push-str-4.ensures (after_blank r) left in
-    fits_more c.push-decimal-2.ensures after_place left
+    let left = fits_more c.push_str.ensures (after_refused r) c.requires in
+    let left = fits_more c.push_decimal.ensures (after_number r) left in
+    let left = fits_more c.push_str-2.ensures (after_space r) left in
+    let left = fits_more (appends_as c.text.ensures c.push_str-3.ensures) (after_word r) left in
+    let left = fits_more c.push_str-4.ensures (after_blank r) left in
+    fits_more c.push_decimal-2.ensures after_place left
 
 pub returns : goal.returns
 returns c =
     let r = c.args.refusal in
-    let word = appends_as c.text.ensures c.push-str-3.ensures in
-    let room1 = fits_more c.push-str.ensures (after_refused r) c.requires in
-    let room2 = fits_more c.push-decimal.ensures (after_number r) room1 in
-    let room3 = fits_more c.push-str-2.ensures (after_space r) room2 in
+    let word = appends_as c.text.ensures c.push_str-3.ensures in
+    let room1 = fits_more c.push_str.ensures (after_refused r) c.requires in
+    let room2 = fits_more c.push_decimal.ensures (after_number r) room1 in
+    let room3 = fits_more c.push_str-2.ensures (after_space r) room2 in
     let room4 = fits_more word (after_word r) room3 in
-    let room5 = fits_more c.push-str-4.ensures (after_blank r) room4 in
-    appends_more c.push-str.ensures (after_refused r) c.requires
-    (appends_more c.push-decimal.ensures (after_number r) room1
-    (appends_more c.push-str-2.ensures (after_space r) room2
+    let room5 = fits_more c.push_str-4.ensures (after_blank r) room4 in
+    appends_more c.push_str.ensures (after_refused r) c.requires
+    (appends_more c.push_decimal.ensures (after_number r) room1
+    (appends_more c.push_str-2.ensures (after_space r) room2
     (appends_more word (after_word r) room3
-    (appends_more c.push-str-4.ensures (after_blank r) room4
-    (appends_more c.push-decimal-2.ensures after_place room5 c.push.ensures)))))
+    (appends_more c.push_str-4.ensures (after_blank r) room4
+    (appends_more c.push_decimal-2.ensures after_place room5 c.push.ensures)))))

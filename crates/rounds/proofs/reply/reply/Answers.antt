@@ -1,4 +1,4 @@
-use Rattle.std.proofs.Common.{◌≡◌, Ok, Err, refl}
+use Rattle.std.proofs.Common.{Ok, Err, refl}
 use Rattle.plate.specs.Plates.{members}
 use Rattle.rounds.specs.PlayCall.{entrant, play_fault}
 use Rattle.rounds.proofs.Within.{played_within, refused_within}

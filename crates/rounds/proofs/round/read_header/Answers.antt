@@ -10,7 +10,7 @@ returns c =
     let rest = c.word-rest.result in
     let is = c.word-rest.ensures in
     let small : get_or {A = ℕ} file 0 0 < 256 = search rules in
-    let fits = c.word-rest.type-inv in
+    let fits = c.word-rest.type_inv in
     record {
       kind = sym (kind_is file rest is small fits);
       side = ap (λ x. x + 1) (and_mask first 6) ∙ sym (side_is file rest is small fits);

@@ -3,9 +3,9 @@ use Rattle.reports.proofs.Texts.{appends_as, appends_more, fits_more}
 use Rattle.reports.proofs.text.Text.push_pair.Goals as goal
 
 pub push-requires-2 : goal.push-requires-2
-push-requires-2 c = fits_more c.push.ensures (c.hex-digit-2.result ∷ []) c.requires
+push-requires-2 c = fits_more c.push.ensures (c.hex_digit-2.result ∷ []) c.requires
 
 pub returns : goal.returns
 returns c =
-    appends_as (ap₂ (λ high low. high ∷ low ∷ []) c.hex-digit.ensures c.hex-digit-2.ensures)
-    (appends_more c.push.ensures (c.hex-digit-2.result ∷ []) c.requires c.push-2.ensures)
+    appends_as (ap₂ (λ high low. high ∷ low ∷ []) c.hex_digit.ensures c.hex_digit-2.ensures)
+    (appends_more c.push.ensures (c.hex_digit-2.result ∷ []) c.requires c.push-2.ensures)
