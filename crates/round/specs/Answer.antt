@@ -1,11 +1,8 @@
 -- What the program answers to a round.
 use Rattle.std.specs.Prelude.{◌≡◌, ℕ, Bool, true, false, List, length, Ok, ◌==◌}
-use Rattle.toom.specs.declared.bit.Bit.{Bit}
-use Rattle.toom.specs.declared.machine_cell.MachineCell.{MachineCell}
 use Rattle.toom.specs.Bit.{bit_of_byte, byte_of_bit, equal_bits}
 use Rattle.toom.specs.MachineCell.{byte_of_machine_cell, equal_machine_cells, machine_cell_of_byte}
 use Rattle.hosts.specs.declared.elementary.Elementary.{Elementary}
-use Rattle.hosts.specs.declared.machine.Machine.{Machine}
 use Rattle.hosts.specs.Elementary.{wolfram}
 use Rattle.hosts.specs.MachineFile.{MachineIn, machine_refusal}
 use Rattle.hosts.specs.MachineRule.{machine_rule}
