@@ -8,8 +8,8 @@ mod outputs;
 #[cfg(test)]
 mod refused;
 #[cfg(test)]
-mod reports;
-#[cfg(test)]
 mod round_refusals;
 #[cfg(test)]
-mod rounds;
+mod whole_reports;
+#[cfg(test)]
+mod whole_rounds;

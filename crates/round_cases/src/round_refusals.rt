@@ -40,13 +40,15 @@ fn refuse<C: Kind, H: Entry<C>>(
         return Err(Fail::new("the round was played"));
     };
     let (number, word, place) = told;
+    let length = file.len();
     assert_eq!(rt;
         fault.refusal(),
         Refusal {
             number,
             word,
             place,
-        }
+        },
+        "a file of {length} bytes"
     );
     for found in memory.iter() {
         assert!(rt; found.same(cell), "a cell was written");
@@ -83,9 +85,7 @@ fn refuse_each<C: Kind, H: Entry<C>>(
         let (length, edits, told) = *case;
         assert!(rt; length <= FILE);
         let bytes = edited(file, edits);
-        refuse::<C, H>(rt, memory, cell, out, &bytes[..length], told).note(format_args!(
-            "length {length}, edits {edits:?}"
-        ))?;
+        refuse::<C, H>(rt, memory, cell, out, &bytes[..length], told)?;
     }
     Ok(())
 }

@@ -10,9 +10,9 @@ mod records;
 #[cfg(test)]
 mod run_refusals;
 #[cfg(test)]
-mod runs;
-#[cfg(test)]
 mod scripts;
+#[cfg(test)]
+mod whole_runs;
 
 // What a test builds could not be built.
 #[cfg(test)]
