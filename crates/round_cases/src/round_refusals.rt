@@ -27,13 +27,14 @@ type Case = (usize, [(usize, u8); 2], Told);
 // Nothing is put in: there is no such index.
 const KEEP: (usize, u8) = (FILE, 0);
 
-// The play is refused for this; memory, all of one cell, and output are as they were.
+// The play of a file, with two bytes put in, is refused for this; memory, all of one cell, and output are as they were.
 fn refuse<C: Kind, H: Entry<C>>(
     rt: &impl Abort,
     memory: &mut [C],
     cell: C,
     out: &mut [u8],
     file: &[u8],
+    edits: [(usize, u8); 2],
     told: Told,
 ) -> Result<(), Fail> {
     let Err(fault) = play::<C, H>(memory, file, out) else {
@@ -48,7 +49,7 @@ fn refuse<C: Kind, H: Entry<C>>(
             word,
             place,
         },
-        "a file of {length} bytes"
+        "length {length}, edits {edits:?}"
     );
     for found in memory.iter() {
         assert!(rt; found.same(cell), "a cell was written");
@@ -85,7 +86,7 @@ fn refuse_each<C: Kind, H: Entry<C>>(
         let (length, edits, told) = *case;
         assert!(rt; length <= FILE);
         let bytes = edited(file, edits);
-        refuse::<C, H>(rt, memory, cell, out, &bytes[..length], told)?;
+        refuse::<C, H>(rt, memory, cell, out, &bytes[..length], edits, told)?;
     }
     Ok(())
 }
@@ -257,7 +258,7 @@ fn a_file_too_long(rt: HostRuntime) -> Result<(), Fail> {
     file[8] = 0xF0;
     let told = (25, Word::Round, 0);
     let (memory, out) = (&mut [Bit::One; 60], &mut [FILL; ROOM]);
-    refuse::<Bit, Elementary>(&rt, memory, Bit::One, out, &file, told)
+    refuse::<Bit, Elementary>(&rt, memory, Bit::One, out, &file, [KEEP; 2], told)
 }
 
 // The busy beaver's round, altered, over memory of one cell that is not of its tape.

@@ -3,8 +3,8 @@
 
 use crate::input::{InputFault, read_shadow};
 use crate::trace::thinning;
-use anyhow::anyhow;
 use std::io::Read;
+use std::process::ExitCode;
 
 mod input;
 #[cfg(test)]
@@ -25,12 +25,12 @@ fn run(rt: &HostRuntime) -> anyhow::Result<Option<InputFault>> {
     }
 }
 
-fn main(rt: HostRuntime) -> anyhow::Result<()> {
+fn main(rt: HostRuntime) -> anyhow::Result<ExitCode> {
     match run(&rt)? {
-        None => Ok(()),
+        None => Ok(ExitCode::SUCCESS),
         Some(fault) => {
             rt.eprintln(fault)?;
-            Err(anyhow!("the input is refused"))
+            Ok(ExitCode::FAILURE)
         }
     }
 }
