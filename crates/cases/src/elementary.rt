@@ -3,6 +3,7 @@ use crate::rings::step;
 use hosts::elementary::Elementary;
 use hosts::host::Host;
 use std::test::Fail;
+use toom::bit::Bit;
 use toom::kind::Kind;
 
 #[test]
@@ -14,7 +15,7 @@ fn rule_110_on_eight_bits(rt: HostRuntime) -> Result<(), Fail> {
         [0, 0, 0, 0, 0, 1, 1, 1],
         [0, 0, 0, 0, 1, 1, 0, 1],
     ] {
-        ring = step::<toom::bit::Bit, _, 8>(&host, ring)?;
+        ring = step::<Bit, _, 8>(&host, ring)?;
         assert_eq!(rt; ring, after);
     }
     Ok(())
@@ -26,9 +27,9 @@ fn each_bit_of_a_rule(rt: HostRuntime) -> Result<(), Fail> {
     for k in 0..8u8 {
         let host = Elementary { rule: 1 << k };
         for i in 0..8u8 {
-            let left = <toom::bit::Bit as Kind>::from_byte(i / 4).ok_or("no bit")?;
-            let centre = <toom::bit::Bit as Kind>::from_byte(i / 2 % 2).ok_or("no bit")?;
-            let right = <toom::bit::Bit as Kind>::from_byte(i % 2).ok_or("no bit")?;
+            let left = Bit::from_byte(i / 4).ok_or("no bit")?;
+            let centre = Bit::from_byte(i / 2 % 2).ok_or("no bit")?;
+            let right = Bit::from_byte(i % 2).ok_or("no bit")?;
             assert_eq!(rt; host.answer(left, centre, right).byte() == 1, i == k);
         }
     }

@@ -7,10 +7,10 @@ use toom::machine_cell::MachineCell;
 
 #[test]
 fn a_bit_has_the_bytes_00_and_01(rt: HostRuntime) {
-    assert_eq!(rt; <Bit as Kind>::from_byte(0), Some(Bit::Zero));
-    assert_eq!(rt; <Bit as Kind>::from_byte(1), Some(Bit::One));
+    assert_eq!(rt; Bit::from_byte(0), Some(Bit::Zero));
+    assert_eq!(rt; Bit::from_byte(1), Some(Bit::One));
     for byte in 2..=255u8 {
-        assert_eq!(rt; <Bit as Kind>::from_byte(byte), None);
+        assert_eq!(rt; Bit::from_byte(byte), None);
     }
     assert_eq!(rt; Bit::Zero.byte(), 0);
     assert_eq!(rt; Bit::One.byte(), 1);
@@ -19,7 +19,7 @@ fn a_bit_has_the_bytes_00_and_01(rt: HostRuntime) {
 #[test]
 fn every_byte_names_a_machine_cell(rt: HostRuntime) -> Result<(), Fail> {
     for byte in 0..=255u8 {
-        let cell = <MachineCell as Kind>::from_byte(byte).ok_or(Unbuilt)?;
+        let cell = MachineCell::from_byte(byte).ok_or(Unbuilt)?;
         assert_eq!(rt; cell.head, byte / 16);
         assert_eq!(rt; cell.symbol, byte % 16);
         assert_eq!(rt; cell.byte(), byte);
@@ -30,9 +30,9 @@ fn every_byte_names_a_machine_cell(rt: HostRuntime) -> Result<(), Fail> {
 #[test]
 fn only_equal_cells_are_the_same(rt: HostRuntime) -> Result<(), Fail> {
     for a in 0..=255u8 {
-        let x = <MachineCell as Kind>::from_byte(a).ok_or(Unbuilt)?;
+        let x = MachineCell::from_byte(a).ok_or(Unbuilt)?;
         for b in 0..=255u8 {
-            let y = <MachineCell as Kind>::from_byte(b).ok_or(Unbuilt)?;
+            let y = MachineCell::from_byte(b).ok_or(Unbuilt)?;
             assert_eq!(rt; x.same(y), a == b);
         }
     }

@@ -6,6 +6,7 @@ use hosts::machine::Machine;
 use hosts::machine::fault::MachineFault;
 use std::test::Fail;
 use toom::kind::Kind;
+use toom::machine_cell::MachineCell;
 
 // The two-state busy beaver; state 3 stands still.
 const BEAVER: [u8; 13] = [
@@ -14,9 +15,9 @@ const BEAVER: [u8; 13] = [
 
 // The byte of the machine's answer to the cells of three bytes.
 fn answered(machine: &Machine, left: u8, centre: u8, right: u8) -> Result<u8, Unbuilt> {
-    let left = <toom::machine_cell::MachineCell as Kind>::from_byte(left).ok_or(Unbuilt)?;
-    let centre = <toom::machine_cell::MachineCell as Kind>::from_byte(centre).ok_or(Unbuilt)?;
-    let right = <toom::machine_cell::MachineCell as Kind>::from_byte(right).ok_or(Unbuilt)?;
+    let left = MachineCell::from_byte(left).ok_or(Unbuilt)?;
+    let centre = MachineCell::from_byte(centre).ok_or(Unbuilt)?;
+    let right = MachineCell::from_byte(right).ok_or(Unbuilt)?;
     Ok(machine.answer(left, centre, right).byte())
 }
 
@@ -25,7 +26,7 @@ fn the_busy_beaver_in_six_steps(rt: HostRuntime) -> Result<(), Fail> {
     let machine = Machine::read(&BEAVER)?;
     let mut ring = [0, 0, 0, 0x10, 0, 0, 0];
     for _ in 0..6 {
-        ring = step::<toom::machine_cell::MachineCell, _, 7>(&machine, ring)?;
+        ring = step::<MachineCell, _, 7>(&machine, ring)?;
     }
     assert_eq!(rt; ring, [0, 0x01, 0x01, 0x31, 0x01, 0, 0]);
     Ok(())
@@ -59,7 +60,7 @@ fn a_ring_of_one_cell(rt: HostRuntime) -> Result<(), Fail> {
     let machine = Machine::read(&BEAVER)?;
     let mut ring = [0x10];
     for after in [[0x21], [0x31], [0x31]] {
-        ring = step::<toom::machine_cell::MachineCell, _, 1>(&machine, ring)?;
+        ring = step::<MachineCell, _, 1>(&machine, ring)?;
         assert_eq!(rt; ring, after);
     }
     Ok(())

@@ -6,6 +6,7 @@ use plate::plate::Plate;
 use std::test::Fail;
 use toom::bit::Bit;
 use toom::kind::Kind;
+use toom::machine_cell::MachineCell;
 
 #[test]
 fn a_bare_plate_refuses_all_but_lay(rt: HostRuntime) {
@@ -57,7 +58,7 @@ fn bytes_of_a_tape(rt: HostRuntime) -> Result<(), Fail> {
         plate.lay(3, 2, &[0, 1, 255]),
         Err(LayFault::Byte { index: 2 })
     );
-    let Some(blank) = <toom::machine_cell::MachineCell as Kind>::from_byte(0) else {
+    let Some(blank) = MachineCell::from_byte(0) else {
         return Err(Fail::new("no cell"));
     };
     let mut cells = [blank; 30];

@@ -108,7 +108,7 @@ fn a_plate_of_bits_heals(rt: HostRuntime) -> Result<(), Fail> {
 #[test]
 fn a_plate_of_machine_cells_heals(rt: HostRuntime) -> Result<(), Fail> {
     let machine = Machine::read(&BEAVER)?;
-    let blank = <MachineCell as Kind>::from_byte(0).ok_or(Unbuilt)?;
+    let blank = MachineCell::from_byte(0).ok_or(Unbuilt)?;
     let mut cells = [blank; 200];
     let mut plate = Plate::new(&mut cells);
     heal(&rt, &mut plate, &machine, [0x10, 0x00, 0x01], 0x27)

@@ -1,5 +1,7 @@
 // The vote of three cells: north, east, own.
+use toom::bit::Bit;
 use toom::kind::Kind;
+use toom::machine_cell::MachineCell;
 use toom::vote::vote;
 
 // The byte of the vote of the cells that three bytes name.
@@ -12,11 +14,11 @@ fn voted<C: Kind>(north: u8, east: u8, own: u8) -> Option<u8> {
 
 #[test]
 fn bits(rt: HostRuntime) {
-    assert_eq!(rt; voted::<toom::bit::Bit>(1, 1, 0), Some(1));
+    assert_eq!(rt; voted::<Bit>(1, 1, 0), Some(1));
     let majority = [0, 0, 0, 1, 0, 1, 1, 1];
     for i in 0..8u8 {
         assert_eq!(rt;
-            voted::<toom::bit::Bit>(i / 4, i / 2 % 2, i % 2),
+            voted::<Bit>(i / 4, i / 2 % 2, i % 2),
             Some(majority[i as usize])
         );
     }
@@ -32,9 +34,6 @@ fn machine_cells(rt: HostRuntime) {
         (0x21, 0x2f, 0x21, 0x21),
     ];
     for (north, east, own, vote) in table {
-        assert_eq!(rt;
-            voted::<toom::machine_cell::MachineCell>(north, east, own),
-            Some(vote)
-        );
+        assert_eq!(rt; voted::<MachineCell>(north, east, own), Some(vote));
     }
 }

@@ -10,6 +10,7 @@ use std::process::Abort;
 use std::test::Fail;
 use toom::bit::Bit;
 use toom::kind::Kind;
+use toom::machine_cell::MachineCell;
 
 // The ring of the faultless run after one step.
 fn step<C: Kind, H: Host<C>, const N: usize>(host: &H, ring: [C; N]) -> [C; N] {
@@ -131,13 +132,10 @@ fn a_thousand_beats_of_bits(rt: HostRuntime) -> Result<(), Fail> {
 #[test]
 fn a_thousand_beats_of_machine_cells(rt: HostRuntime) -> Result<(), Fail> {
     let host = Machine::read(&BEAVER)?;
-    let blank = <toom::machine_cell::MachineCell as Kind>::from_byte(0).ok_or(Unbuilt)?;
-    let head = <toom::machine_cell::MachineCell as Kind>::from_byte(0x10).ok_or(Unbuilt)?;
-    let wrong = [
-        <toom::machine_cell::MachineCell as Kind>::from_byte(0x27).ok_or(Unbuilt)?,
-        blank,
-    ];
-    long::<toom::machine_cell::MachineCell, _, 4>(
+    let blank = MachineCell::from_byte(0).ok_or(Unbuilt)?;
+    let head = MachineCell::from_byte(0x10).ok_or(Unbuilt)?;
+    let wrong = [MachineCell::from_byte(0x27).ok_or(Unbuilt)?, blank];
+    long::<MachineCell, _, 4>(
         &rt,
         &mut [blank; 32_776],
         &host,
@@ -145,7 +143,7 @@ fn a_thousand_beats_of_machine_cells(rt: HostRuntime) -> Result<(), Fail> {
         marked(blank, head),
         wrong,
     )?;
-    long::<toom::machine_cell::MachineCell, _, 256>(
+    long::<MachineCell, _, 256>(
         &rt,
         &mut [blank; 33_280],
         &host,
@@ -153,7 +151,7 @@ fn a_thousand_beats_of_machine_cells(rt: HostRuntime) -> Result<(), Fail> {
         marked(blank, head),
         wrong,
     )?;
-    long::<toom::machine_cell::MachineCell, _, 4096>(
+    long::<MachineCell, _, 4096>(
         &rt,
         &mut [blank; 40_960],
         &host,

@@ -14,6 +14,7 @@ use std::process::Abort;
 use std::test::Fail;
 use toom::bit::Bit;
 use toom::kind::Kind;
+use toom::machine_cell::MachineCell;
 
 const RULE: Elementary = Elementary { rule: 110 };
 
@@ -183,7 +184,7 @@ fn records_of_bits(rt: HostRuntime) -> Result<(), Fail> {
 #[test]
 fn records_of_machine_cells(rt: HostRuntime) -> Result<(), Fail> {
     let host = Machine::read(&BEAVER)?;
-    let blank = <toom::machine_cell::MachineCell as Kind>::from_byte(0).ok_or(Unbuilt)?;
+    let blank = MachineCell::from_byte(0).ok_or(Unbuilt)?;
     let mut cells = [blank; CELLS];
     let mut plate = Plate::new(&mut cells);
     wear(&mut plate, &host, &[0, 0x10, 0])?;
@@ -264,7 +265,7 @@ fn whole_runs_of_bits(rt: HostRuntime) {
 #[test]
 fn whole_runs_of_machine_cells(rt: HostRuntime) -> Result<(), Fail> {
     let host = Machine::read(&BEAVER)?;
-    let blank = <toom::machine_cell::MachineCell as Kind>::from_byte(0).ok_or(Unbuilt)?;
+    let blank = MachineCell::from_byte(0).ok_or(Unbuilt)?;
     refuse_whole(&rt, &mut [blank; CELLS], &host, &[0, 0x10, 0]);
     Ok(())
 }

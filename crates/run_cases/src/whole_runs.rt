@@ -12,6 +12,7 @@ use std::process::Abort;
 use std::test::Fail;
 use toom::bit::Bit;
 use toom::kind::Kind;
+use toom::machine_cell::MachineCell;
 
 const RULE: Elementary = Elementary { rule: 110 };
 
@@ -121,7 +122,7 @@ fn a_run_of_bits_one_by_one_and_in_halves(rt: HostRuntime) -> Result<(), Fail> {
 #[test]
 fn a_run_of_machine_cells_one_by_one_and_in_halves(rt: HostRuntime) -> Result<(), Fail> {
     let host = Machine::read(&BEAVER)?;
-    let blank = <toom::machine_cell::MachineCell as Kind>::from_byte(0).ok_or(Unbuilt)?;
+    let blank = MachineCell::from_byte(0).ok_or(Unbuilt)?;
     for byte in [0x00, 0x20, 0x45] {
         agree(
             &rt,
@@ -183,7 +184,7 @@ fn strikes_in_time<C: Kind, H: Host<C>>(
 fn strikes_before_and_after_their_beats(rt: HostRuntime) -> Result<(), Fail> {
     strikes_in_time(&rt, &mut [Bit::Zero; CELLS], &Elementary { rule: 204 })?;
     let host = Machine::read(&BEAVER)?;
-    let blank = <toom::machine_cell::MachineCell as Kind>::from_byte(0).ok_or(Unbuilt)?;
+    let blank = MachineCell::from_byte(0).ok_or(Unbuilt)?;
     strikes_in_time(&rt, &mut [blank; CELLS], &host)
 }
 
@@ -230,7 +231,7 @@ fn runs_without_beats(rt: HostRuntime) -> Result<(), Fail> {
         &[0, 1, 1],
     )?;
     let host = Machine::read(&BEAVER)?;
-    let blank = <toom::machine_cell::MachineCell as Kind>::from_byte(0).ok_or(Unbuilt)?;
+    let blank = MachineCell::from_byte(0).ok_or(Unbuilt)?;
     no_beats(
         &rt,
         &mut [blank; CELLS],
@@ -268,6 +269,6 @@ fn to_the_limit<C: Kind, H: Host<C>>(
 fn the_age_at_its_limit(rt: HostRuntime) -> Result<(), Fail> {
     to_the_limit(&rt, &mut [Bit::Zero; 10], &Elementary { rule: 204 })?;
     let host = Machine::read(&BEAVER)?;
-    let blank = <toom::machine_cell::MachineCell as Kind>::from_byte(0).ok_or(Unbuilt)?;
+    let blank = MachineCell::from_byte(0).ok_or(Unbuilt)?;
     to_the_limit(&rt, &mut [blank; 10], &host)
 }
