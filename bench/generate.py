@@ -601,7 +601,7 @@ def damage_25(rng, round_):
     elif way == 1:
         round_.after = bytes(rng.choice([1, 8, 100]))
     elif way == 2:
-        round_.cut = rng.choice([9, 10, rng.randint(9, length)])
+        round_.cut = rng.choice([9, 10, rng.randint(9, max(9, length))])
     elif way == 3:
         round_.host_said = rng.choice([-1, 1, 256, 65535])
     elif way == 4:
