@@ -1,4 +1,5 @@
 pub mod Columns
+pub mod EqualShadows
 pub mod FullLines
 pub mod Inclusions
 pub mod Modular

@@ -1,21 +1,30 @@
 -- A shadow by its rows: their counts and words are those of its marks, and the marks determine it.
-use Rattle.std.proofs.Common.{◌≡◌, ℕ, ◌+◌, ◌-◌, ◌^◌, ◌<◌, ◌≤◌, Bool, cond, length, get_or, take, sym, ap, ◌∙◌, ap₂, inl, inr, add-one, arith}
+use Rattle.std.proofs.Common.{◌≡◌, ℕ, zero, suc, refl, ◌+◌, ◌-◌, ◌^◌, ◌<◌, ◌≤◌, Bool, cond, length, get_or, take, sym, ap, ◌∙◌, ap₂, inl, inr, add-one, arith}
 use Rattle.std.specs.Int.Count.{ones}
+use Rattle.std.specs.List.{sum_by}
+use Rattle.std.proofs.lemmas.List.Sums.{sum_by_push}
 use Rattle.std.proofs.lemmas.List.FromFn.{fill_by_all}
-use Rattle.std.proofs.lemmas.List.{ext_get_or, get_or-take, length-take-le}
+use Rattle.std.proofs.lemmas.List.{ext_get_or, get_or-take, length-take-le, take_more}
 use Rattle.std.proofs.lemmas.Bool.{cases_lt}
 use Rattle.toom.specs.declared.shadow.Shadow.{Shadow}
-use Rattle.toom.specs.EqualShadows.{shadows_equal}
+use Rattle.toom.proofs.EqualShadows.{shadows_equal}
 use Rattle.toom.specs.Rows.{row_word}
 use Rattle.toom.specs.Shadow.{marks, words_of, IsShadow, MarksPin}
-use Rattle.toom.specs.Torus.{Plane, total}
+use Rattle.toom.specs.Torus.{Plane, total, count_marks}
 use Rattle.toom.proofs.RowWords.{total_same, word_is, ones_are}
 
 module _ (s : Shadow) where
-  -- one row more is counted
-  pub count_more : (r n : ℕ) → n ≡ total (λ k. total (λ c. cond (marks s k c) 1 0) s.side) r
-      → n + ones (get_or s.rows r 0) ≡ total (λ k. total (λ c. cond (marks s k c) 1 0) s.side) (r + 1)
-  count_more r n e = ap₂ ◌+◌ e (ones_are s.side (get_or s.rows r 0) s.sized.1 (s.narrow r)) ∙ sym (ap (total _) (add-one r))
+  -- the columns of the first rows are their marks
+  pub counted : (n : ℕ) → n ≤ length s.rows
+      → sum_by ones (take n s.rows) ≡ total (λ r. total (λ c. cond (marks s r c) 1 0) s.side) n
+  counted zero h = refl
+  counted (suc n) h =
+      ap (λ k. sum_by ones (take k s.rows)) (sym (add-one n))
+      ∙ ap (sum_by ones) (take_more s.rows n 0 (omega (arith, h))) ∙ sum_by_push ones (take n s.rows) (get_or s.rows n 0)
+      ∙ ap₂ ◌+◌ (counted n (omega arith)) (ones_are s.side (get_or s.rows n 0) s.sized.1 (s.narrow n))
+
+  pub counted_all : sum_by ones (take s.side s.rows) ≡ count_marks s.side (marks s)
+  counted_all = counted s.side (omega (arith, s.tall, s.sized.1))
 
   pub row_is : (r : ℕ) → row_word s.side (marks s r) ≡ get_or s.rows r 0
   row_is r = word_is s.side (get_or s.rows r 0) s.sized.1 (s.narrow r)

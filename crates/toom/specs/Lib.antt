@@ -1,5 +1,4 @@
 pub mod Bit
-pub mod EqualShadows
 pub mod Inclusion
 pub mod Lines
 pub mod MachineCell

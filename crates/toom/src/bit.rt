@@ -1,5 +1,7 @@
 // The bit: the kind of cell with two values, of bytes 00 and 01.
-ghost use Rattle.toom.specs.Bit.{equal_bits, byte_of_bit, bit_of_byte};
+ghost use Rattle.std.specs.Prelude.{◌≡◌, if◌then◌else◌};
+ghost use Rattle.toom.specs.declared.bit.Bit.TheVariants.{Zero, One};
+ghost use Rattle.toom.specs.Bit.{byte_of_bit, bit_of_byte};
 ghost use Rattle.std.proofs.Common.{rules};
 
 use crate::kind::Kind;
@@ -10,9 +12,16 @@ pub enum Bit {
     One,
 }
 
-impl Kind for Bit {
-    ghost equal = { equal_bits };
+// One for true, Zero for false.
+impl From<bool> for Bit {
+    ghost from_gives = { λ set bit. bit ≡ (if set then One else Zero) };
 
+    fn from(set: bool) -> Bit {
+        if set { Bit::One } else { Bit::Zero }
+    }
+}
+
+impl Kind for Bit {
     ghost byte_of = { byte_of_bit };
 
     ghost cell_of = { bit_of_byte };
@@ -26,10 +35,6 @@ impl Kind for Bit {
     ghost readback = { Prim.search rules };
 
     ghost unique = { Prim.search rules };
-
-    fn same(self, other: Bit) -> bool {
-        self == other
-    }
 
     fn byte(self) -> u8 {
         match self {

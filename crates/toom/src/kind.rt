@@ -1,18 +1,12 @@
-// A kind of cell: sameness of two cells, a cell's byte, and the cell that a byte names.
-ghost use Rattle.std.specs.Prelude.{◌≡◌, ℕ, ◌<◌, Bool, true, Some, Option};
+// A kind of cell: two of its cells can be compared, each has a byte, and a byte may name a cell.
+ghost use Rattle.std.specs.Prelude.{◌≡◌, ℕ, ◌<◌, true, Some, Option};
 
-pub trait Kind: Copy {
-    // Whether two cells are the same.
-    ghost equal: { Self → Self → Bool };
-
+pub trait Kind: Copy + Eq {
     // A cell's byte.
     ghost byte_of: { Self → ℕ };
 
     // The cell that a byte names, or none.
     ghost cell_of: { ℕ → Option Self };
-
-    fn same(self, other: Self) -> bool
-        ensures { result ≡ equal self other };
 
     fn byte(self) -> u8
         ensures { result ≡ byte_of self };
@@ -21,9 +15,9 @@ pub trait Kind: Copy {
         ensures { result ≡ cell_of byte };
 
     // Sameness says yes of a cell and itself, and only of equal cells.
-    ghost reflexive: { (x : Self) → equal x x ≡ true };
+    ghost reflexive: { (x : Self) → Self.eq x x ≡ true };
 
-    ghost exact: { (x y : Self) → equal x y ≡ true → x ≡ y };
+    ghost exact: { (x y : Self) → Self.eq x y ≡ true → x ≡ y };
 
     // A cell's byte is a byte and reads back as that cell; a byte that reads as a cell is that cell's byte.
     ghost bounded: { (x : Self) → byte_of x < 256 };

@@ -1,16 +1,22 @@
 // The laws of the vote and of the shadow, each the contract of a function that does nothing.
+ghost use Rattle.std.specs.Prelude.{◌≡◌, Decides};
+ghost use Rattle.toom.specs.Bit.{equal_bits};
 ghost use Rattle.toom.specs.Inclusion.{VoteKeepsInclusion};
+ghost use Rattle.toom.specs.MachineCell.{equal_machine_cells};
 ghost use Rattle.toom.specs.Lines.{LinesStay, BoundIsSharp};
 ghost use Rattle.toom.specs.Shadow.{MarksPin};
 ghost use Rattle.toom.specs.Triangle.{TriangleShrinks, TriangleVanishes};
 ghost use Rattle.toom.specs.Vote.{OneWounded, HealsOutside};
 
+use crate::bit::Bit;
 use crate::kind::Kind;
+use crate::machine_cell::MachineCell;
+use crate::shadow::Shadow;
 
 // At most one wounded copy is healed; so where the copies outside a shadow are right, those outside the voted shadow are right after the vote.
 pub fn vote_heals<C: Kind>()
-    ensures cells { OneWounded C.equal }
-    ensures planes { HealsOutside C.equal }
+    ensures cells { OneWounded C.eq }
+    ensures planes { HealsOutside C.eq }
 {}
 
 // A shadow is its side and its marks, so the vote depends on nothing but the bits.
@@ -33,4 +39,12 @@ pub fn full_lines_stay()
 // A smaller shadow votes into a smaller shadow.
 pub fn inclusion_is_kept()
     ensures { VoteKeepsInclusion }
+{}
+
+// Sameness: of bits and of machine cells as the rules say it; of shadows it is their equality.
+#[tactic(auto, using(crate::proofs::EqualShadows::equal_shadows_decides))]
+pub fn sameness_is_equality()
+    ensures bits { (x y : Bit) → ⟦<Bit as PartialEq>⟧.eq x y ≡ equal_bits x y }
+    ensures machine_cells { (x y : MachineCell) → ⟦<MachineCell as PartialEq>⟧.eq x y ≡ equal_machine_cells x y }
+    ensures shadows { (x y : Shadow) → Decides (⟦<Shadow as PartialEq>⟧.eq x y) (x ≡ y) }
 {}

@@ -1,5 +1,5 @@
 // The machine cell as a kind: head in the high four bits of its byte, symbol in the low four.
-ghost use Rattle.toom.specs.MachineCell.{equal_machine_cells, byte_of_machine_cell, machine_cell_of_byte};
+ghost use Rattle.toom.specs.MachineCell.{byte_of_machine_cell, machine_cell_of_byte};
 ghost use Rattle.std.specs.Prelude.{Some, ◌==◌};
 ghost use Rattle.std.proofs.lemmas.Bool.{and_parts, eqb-true};
 ghost use Rattle.toom.specs.MachineCells.{cells_equal};
@@ -9,8 +9,6 @@ use crate::kind::Kind;
 use crate::machine_cell::MachineCell;
 
 impl Kind for MachineCell {
-    ghost equal = { equal_machine_cells };
-
     ghost byte_of = { byte_of_machine_cell };
 
     ghost cell_of = { machine_cell_of_byte };
@@ -26,10 +24,6 @@ impl Kind for MachineCell {
     ghost readback = { λ x. ap Some (cells_equal _ x (omega arith) (omega arith)) };
 
     ghost unique = { Prim.search rules };
-
-    fn same(self, other: MachineCell) -> bool {
-        self.head == other.head && self.symbol == other.symbol
-    }
 
     fn byte(self) -> u8 {
         16 * self.head + self.symbol

@@ -1,5 +1,7 @@
 // Rows of bits in 64-bit words, column 0 in the highest bit: the vote of a row, and a mark in one.
 ghost use Rattle.std.specs.Prelude.{◌≡◌, ℕ, ◌<◌, ◌≤◌, ◌||◌, length, ◌==◌, slice_index};
+ghost use Rattle.std.specs.List.{sum_by};
+ghost use Rattle.std.specs.Int.Count.{ones};
 ghost use Rattle.toom.specs.Rows.{Side, Narrow, column, RowVote, RowsVote};
 ghost use Rattle.toom.specs.Torus.{next};
 
@@ -33,6 +35,14 @@ pub(crate) fn with_column(row: u64, at: usize, side: usize) -> u64
     ensures columns { (c : ℕ) → c < side → column result c ≡ (column row c || c == at) }
 {
     row | 1 << (63 - at)
+}
+
+// How many columns of these rows are marked.
+pub(crate) fn count_columns(rows: &[u64]) -> usize
+    requires { length rows.now ≤ 64 }
+    ensures { result ≡ sum_by ones rows.now }
+{
+    rows.iter().map(|row| row.count_ones() as usize).sum()
 }
 
 // Votes the rows of a torus. A row is voted before its southern one, so that both rows it needs are still old; the last needs the first.

@@ -11,7 +11,7 @@ pub const MAX_SIDE: usize = 64;
 
 // Column 0 is in the highest bit of a row. The bits past the side, and the rows past it, are zero: so a shadow is its side and its marked
 // places, and nothing else.
-#[derive(Clone, Copy)]
+#[derive(Clone, Copy, PartialEq, Eq)]
 pub struct Shadow {
     side: usize,
     rows: [u64; MAX_SIDE],

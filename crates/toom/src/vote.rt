@@ -6,7 +6,7 @@ use crate::kind::Kind;
 
 // The north cell if north and east are the same, else the place's own.
 pub fn vote<C: Kind>(north: C, east: C, own: C) -> C
-    ensures { result ≡ vote_of C.equal north east own }
+    ensures { result ≡ vote_of C.eq north east own }
 {
-    if north.same(east) { north } else { own }
+    if north == east { north } else { own }
 }

@@ -1,11 +1,10 @@
 // The calls on a shadow: make it empty, add a place, ask one, vote it whole, count its places, write its rows.
-ghost use Rattle.std.specs.Prelude.{◌≡◌, Decides};
-ghost use Rattle.toom.specs.Shadow.{marks, equal_shadows};
+ghost use Rattle.std.specs.Prelude.{◌≡◌};
+ghost use Rattle.toom.specs.Shadow.{marks};
 ghost use Rattle.toom.specs.ShadowCalls.{Emptied, Asked, Added, Voted, Written};
 ghost use Rattle.toom.specs.Torus.{count_marks};
-ghost use Rattle.toom.specs.EqualShadows.{equal_shadows_laws};
 
-use crate::rows::{vote_rows, with_column};
+use crate::rows::{count_columns, vote_rows, with_column};
 use crate::shadow::{MAX_SIDE, MIN_SIDE, Shadow};
 
 // The row or the column of a place is not below the side.
@@ -63,14 +62,11 @@ impl Shadow {
         vote_rows(&mut self.rows, side);
     }
 
+    #[tactic(auto, using(crate::proofs::Shadows::counted_all))]
     pub fn count(&self) -> usize
         ensures { result ≡ count_marks self.now.side (marks self.now) }
     {
-        let mut count = 0;
-        for r in 0..self.side {
-            count += self.rows[r].count_ones() as usize;
-        }
-        count
+        count_columns(&self.rows[..self.side])
     }
 
     pub fn write(&self, out: &mut [u64]) -> Result<(), TooShort>
@@ -82,22 +78,5 @@ impl Shadow {
         }
         out[0..side].copy_from_slice(&self.rows[0..side]);
         Ok(())
-    }
-}
-
-impl PartialEq for Shadow {
-    ghost eq = { equal_shadows };
-
-    ghost laws = { equal_shadows_laws };
-
-    // Two shadows are the same exactly where they are equal.
-    fn eq(&self, other: &Shadow) -> bool
-        ensures value { result ≡ equal_shadows self.now other.now }
-        ensures decides { Decides result (self.now ≡ other.now) }
-    {
-        if self.side != other.side {
-            return false;
-        }
-        self.rows == other.rows
     }
 }
