@@ -3,5 +3,4 @@ pub mod Pictures
 pub mod Pieces
 pub mod Planes
 pub mod Readings
-pub mod Runs
 pub mod Thinnings

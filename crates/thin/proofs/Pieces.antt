@@ -1,10 +1,10 @@
 -- The first line of a text and the first word of a line.
-use Rattle.std.proofs.Common.{◌≡◌, ℕ, ◌+◌, ◌-◌, ◌<◌, ◌≤◌, Bool, true, false, cond, List, [], ◌∷◌, length, take, drop, sym, refl, ap, ◌∙◌, ap₂, one-add, arith}
-use mathlib.Core.Bool.{beq}
-use native.Mathlib.Nat.{sub-zero}
-use Rattle.std.specs.List.{prefix_len}
+use Rattle.std.proofs.Common.{◌≡◌, ℕ, zero, suc, ◌+◌, ◌<◌, ◌≤◌, Bool, true, false, cond, not, nat_lt, Some, None, length-drop, List, [], ◌∷◌, length, take, drop, sym, refl, ap, ◌∙◌, ap₂, one-add, arith}
+use Rattle.std.specs.List.{position, position_or_len}
 use Rattle.std.proofs.lemmas.List.{drop_more, drop_all, take_all, length-take-le}
 use Rattle.std.proofs.lemmas.List.Sums.{prefix_len-le-length}
+use Rattle.std.proofs.lemmas.Bool.{ltb-true, ltb-false}
+use Rattle.std.proofs.lemmas.Option.{none-some}
 use Rattle.thin.specs.Words.{put_first, pieces, full, ends_line, lines, is_blank, words}
 
 -- The pieces that follow the first, of what follows its bytes.
@@ -14,32 +14,57 @@ later cuts (byte ∷ bytes) = pieces cuts bytes
 
 -- How many bytes the first piece has.
 abbrev pub first : (cuts : ℕ → Bool) → List ℕ → ℕ
-first cuts bytes = prefix_len (λ b. beq (cuts b) false) bytes
+first cuts bytes = position_or_len cuts bytes
 
 pub pieces_are : (cuts : ℕ → Bool) (bytes : List ℕ) → pieces cuts bytes ≡ take (first cuts bytes) bytes ∷ later cuts (drop (first cuts bytes) bytes)
 pieces_are cuts [] = refl
 pieces_are cuts (byte ∷ bytes) =
     elim (cuts byte) as (λ t. cond t ([] ∷ pieces cuts bytes) (put_first byte (pieces cuts bytes))
-    ≡ take (cond (beq t false) (1 + first cuts bytes) 0) (byte ∷ bytes) ∷ later cuts (drop (cond (beq t false) (1 + first cuts bytes) 0) (byte ∷ bytes))) [
+    ≡ take (cond (not t) (1 + first cuts bytes) 0) (byte ∷ bytes) ∷ later cuts (drop (cond (not t) (1 + first cuts bytes) 0) (byte ∷ bytes))) [
       | true ↦ refl
       | false ↦ rw one-add (ap (put_first byte) (pieces_are cuts bytes))
     ]
 
--- The line, of n bytes, ends at a 0A, or with the text.
-module _ (text : List ℕ) {n : ℕ} (run : n ≡ first ends_line text) where
-  pub line_ended : n < length text → lines text ≡ take n text ∷ lines (drop (n + 1) text)
-  line_ended h =
-      pieces_are ends_line text ∙ ap (λ i. take i text ∷ later ends_line (drop i text)) (sym run)
-      ∙ ap (λ l. take n text ∷ later ends_line l) (drop_more text n 0 h)
+-- What an answer of `position` says of the bytes before the first that passes.
+pub found : (p : ℕ → Bool) (bytes : List ℕ) {n : ℕ} → position p bytes ≡ Some n → (n ≡ position_or_len p bytes) × (n < length bytes)
+found p bytes {n = n} e = by (nat_lt (position_or_len p bytes) (length bytes)) refl e
+  where
+    by : (t : Bool) → nat_lt (position_or_len p bytes) (length bytes) ≡ t → cond t (Some (position_or_len p bytes)) None ≡ Some n
+        → (n ≡ position_or_len p bytes) × (n < length bytes)
+    by true h e =
+        let same : n ≡ position_or_len p bytes = cc in
+        (same, omega (arith, same, ltb-true _ _ h))
+    by false h e = absurd (none-some n e)
 
-  pub line_last : length text ≤ n → lines text ≡ text ∷ []
-  line_last h =
-      pieces_are ends_line text ∙ ap (λ i. take i text ∷ later ends_line (drop i text)) (sym run)
-      ∙ ap₂ (λ l m. l ∷ later ends_line m) (take_all n text h) (drop_all n text h)
+pub not_found : (p : ℕ → Bool) (bytes : List ℕ) → position p bytes ≡ None → length bytes ≤ position_or_len p bytes
+not_found p bytes e = by (nat_lt (position_or_len p bytes) (length bytes)) refl e
+  where
+    by : (t : Bool) → nat_lt (position_or_len p bytes) (length bytes) ≡ t → cond t (Some (position_or_len p bytes)) None ≡ None
+        → length bytes ≤ position_or_len p bytes
+    by true h e = absurd (none-some _ (sym e))
+    by false h e = ltb-false _ _ h
+
+-- The first line ends at a 0A, or with the text.
+module _ (text : List ℕ) where
+  pub line_ended : {n : ℕ} → position ends_line text ≡ Some n → lines text ≡ take n text ∷ lines (drop (n + 1) text)
+  line_ended {n = n} e =
+      let end = found ends_line text e in
+      pieces_are ends_line text ∙ ap (λ i. take i text ∷ later ends_line (drop i text)) (sym end.0)
+      ∙ ap (λ l. take n text ∷ later ends_line l) (drop_more text n 0 end.1)
+
+  pub line_last : position ends_line text ≡ None → lines text ≡ text ∷ []
+  line_last e =
+      let all = not_found ends_line text e in
+      pieces_are ends_line text ∙ ap₂ (λ l m. l ∷ later ends_line m) (take_all _ text all) (drop_all _ text all)
+
+-- A number that is not 0 is positive.
+pos_of : {n : ℕ} → (n ≡ 0 → ⊥) → 0 < n
+pos_of {n = zero} h = absurd (h refl)
+pos_of {n = suc n} h = omega arith
 
 -- How many blanks stand at the front.
 abbrev pub blanks : List ℕ → ℕ
-blanks line = prefix_len (λ b. beq (is_blank b) true) line
+blanks line = position_or_len (λ b. not (is_blank b)) line
 
 no_blank : (byte : ℕ) (line : List ℕ) → is_blank byte ≡ false → drop (blanks (byte ∷ line)) (byte ∷ line) ≡ byte ∷ line
 no_blank byte line e = rw e
@@ -86,26 +111,33 @@ full_some (byte ∷ word) others h = refl
 first_word : (start : List ℕ) → 0 < first is_blank start
     → words start ≡ take (first is_blank start) start ∷ words (drop (first is_blank start) start)
 first_word start some =
-    let long = length-take-le (first is_blank start) start (prefix_len-le-length (λ b. beq (is_blank b) false) start) in
+    let long = length-take-le (first is_blank start) start (prefix_len-le-length (λ b. not (is_blank b)) start) in
     ap full (pieces_are is_blank start) ∙ full_some (take (first is_blank start) start) _ (omega arith)
     ∙ ap (λ l. take (first is_blank start) start ∷ l) (later_words start)
 
--- The words of a line, n bytes without a blank past k blanks.
-module _ (line : List ℕ) {k n : ℕ} {start : List ℕ} (from : start ≡ drop k line) (skip : k ≡ blanks line) (run : n ≡ first is_blank start) where
-  there : start ≡ drop (blanks line) line
-  there = from ∙ ap (λ i. drop i line) skip
+pub no_word : (line : List ℕ) → position (λ b. not (is_blank b)) line ≡ None → words line ≡ []
+no_word line e = words_skip line ∙ ap words (drop_all _ line (not_found (λ b. not (is_blank b)) line e))
 
-  pub no_word : n ≡ 0 → words line ≡ []
-  no_word none = words_skip line ∙ ap words (all_blank line (sym (ap (first is_blank) there) ∙ sym run ∙ none))
+-- A word begins past the k blanks of a line.
+module _ (line : List ℕ) {k : ℕ} (at : position (λ b. not (is_blank b)) line ≡ Some k) where
+  abbrev pub start : List ℕ
+  start = drop k line
 
-  pub one_word : (n ≡ 0 → ⊥) → {word rest : List ℕ} → word ≡ take n start → rest ≡ drop n start → words line ≡ word ∷ words rest
-  one_word some front back =
-      words_skip line ∙ ap words (sym there) ∙ first_word start (omega arith)
-      ∙ ap (λ i. take i start ∷ words (drop i start)) (sym run) ∙ sym (ap₂ (λ l m. l ∷ words m) front back)
+  word_here : words line ≡ take (first is_blank start) start ∷ words (drop (first is_blank start) start)
+  word_here =
+      let place = found (λ b. not (is_blank b)) line at in
+      let long = length-drop k line in
+      words_skip line ∙ ap (λ i. words (drop i line)) (sym place.0)
+      ∙ first_word start (pos_of (λ none. omega (arith, place.1, long, ap length (ap (λ i. drop i line) place.0 ∙ all_blank line (sym (ap (λ i. first is_blank (drop i line)) place.0) ∙ none)))))
 
--- `&s[0..n]` as the checker reads it.
-pub take_from_start : (n : ℕ) (bytes : List ℕ) → take (n - 0) bytes ≡ take n bytes
-take_from_start n bytes = rw sub-zero
+  pub word_ended : {n : ℕ} → position is_blank start ≡ Some n → words line ≡ take n start ∷ words (drop n start)
+  word_ended {n = n} e =
+      word_here ∙ ap (λ i. take i start ∷ words (drop i start)) (sym (found is_blank start e).0)
+
+  pub word_last : position is_blank start ≡ None → words line ≡ start ∷ []
+  word_last e =
+      let all = not_found is_blank start e in
+      word_here ∙ ap₂ (λ l m. l ∷ words m) (take_all _ start all) (drop_all _ start all)
 
 put_first_length : (byte : ℕ) (others : List (List ℕ)) → 0 < length others → length (put_first byte others) ≡ length others
 put_first_length byte [] h = absurd (omega arith)

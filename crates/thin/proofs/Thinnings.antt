@@ -1,8 +1,9 @@
 -- A thinning, vote by vote.
-use Rattle.std.proofs.Common.{◌≡◌, ℕ, ◌+◌, ◌*◌, ◌<◌, ◌≤◌, Bool, false, List, [], ◌++◌, Decides, sym, refl, ap, ◌∙◌, subst, ap₂, inl, inr, add-one, arith, below_more}
+use Rattle.std.proofs.Common.{◌≡◌, ℕ, ◌+◌, ◌*◌, ◌<◌, ◌≤◌, Bool, false, List, [], ◌++◌, sym, refl, ap, ◌∙◌, subst, ap₂, inl, inr, add-one, arith, below_more}
 use Rattle.std.proofs.lemmas.Bool.{cases_lt, false≢true}
+use Rattle.toom.proofs.EqualShadows.{equal_shadows_decides}
 use Rattle.toom.specs.declared.shadow.Shadow.{Shadow}
-use Rattle.toom.specs.Shadow.{marks, IsShadow, MarksPin}
+use Rattle.toom.specs.Shadow.{marks, equal_shadows, IsShadow, MarksPin}
 use Rattle.toom.specs.ShadowCalls.{Voted}
 use Rattle.toom.specs.Torus.{Plane}
 use Rattle.toom.specs.Vote.{thinned, thinned_by}
@@ -14,10 +15,13 @@ use Rattle.thin.proofs.Pictures.{joined_counting}
 use Rattle.thin.proofs.Planes.{Same, frame_same, thinned_same, ends_same, goes_on_same}
 
 -- A shadow that its vote changes has changed marks.
-pub moved : (s t : Shadow) → MarksPin → Voted s t → Decides false (t ≡ s) → Stays s.side (marks s) → ⊥
+pub moved : (s t : Shadow) → MarksPin → Voted s t → (t ≡ s → ⊥) → Stays s.side (marks s) → ⊥
 moved s t pin voted other stays =
-    false≢true (other.1
-    (pin t s s.side (thinned s.side (marks s)) voted (record { sides = refl; places = λ r c h k. sym (stays r c h k) })))
+    other (pin t s s.side (thinned s.side (marks s)) voted (record { sides = refl; places = λ r c h k. sym (stays r c h k) }))
+
+-- Shadows that do not compare as equal are not equal.
+pub unlike : (s t : Shadow) → false ≡ equal_shadows s t → s ≡ t → ⊥
+unlike s t differ e = false≢true (differ ∙ (equal_shadows_decides s t).1 e)
 
 module _ {side : ℕ} {plane : Plane Bool} {votes : ℕ} where
   pub goes_on : (NoMarks side plane → ⊥) → (Stays side plane → ⊥) → (votes ≡ side * side → ⊥) → GoesOn side plane votes

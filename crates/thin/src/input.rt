@@ -1,8 +1,7 @@
 // The shadow that a text describes: its side on the first line, then a place a line.
-ghost use Rattle.std.specs.Prelude.{◌≡◌, ◌≤◌, false, ◌∷◌, length, Some, Ok, Err, MatchResult};
-ghost use Rattle.std.specs.Bool.{beq};
+ghost use Rattle.std.specs.Prelude.{◌≡◌, not, ◌∷◌, Some, Ok, Err, MatchResult};
 ghost use Rattle.std.specs.Option.{option_map};
-ghost use Rattle.std.specs.List.{prefix_len};
+ghost use Rattle.std.specs.List.{position};
 ghost use Rattle.thin.specs.Fault.{cause_text, fault_text};
 ghost use Rattle.thin.specs.Input.{Reads};
 ghost use Rattle.thin.specs.InputCalls.{WordCut, NumberRead, SideRead, PlaceMarked};
@@ -28,17 +27,18 @@ pub struct InputFault {
     pub cause: Cause,
 }
 
-impl Cause {
-    fn message(self) -> &'static str
-        ensures { result.now ≡ cause_text self }
-    {
-        match self {
+impl fmt::Display for Cause {
+    ghost output = { λ cause. Some (cause_text cause) };
+
+    fn fmt<W: fmt::Write>(&self, f: &mut fmt::Formatter<W>) -> fmt::Result {
+        let message = match self {
             Cause::NoSide => "the side of the torus is missing",
             Cause::WordCount => "the number of words is wrong",
             Cause::NoNumber => "a word is not a decimal number",
             Cause::SideRange => "the side is not from 2 to 64",
             Cause::OffTorus => "the place is not on the torus",
-        }
+        };
+        f.write_str(message)
     }
 }
 
@@ -47,31 +47,25 @@ impl fmt::Display for InputFault {
 
     fn fmt<W: fmt::Write>(&self, f: &mut fmt::Formatter<W>) -> fmt::Result {
         let line = self.line;
-        let message = self.cause.message();
-        write!(f, "line {line}: {message}")
+        let cause = self.cause;
+        write!(f, "line {line}: {cause}")
     }
 }
 
-// How many bytes stand before the first line end, or in all.
-fn line_length(text: &[u8]) -> usize
-    ensures { result ≡ prefix_len (λ b. beq (ends_line b) false) text.now }
+// Where the first line ends, if a line end stands there.
+fn line_end(text: &[u8]) -> Option<usize>
+    ensures { result ≡ position ends_line text.now }
 {
-    let mut length = 0;
-    while length < text.len() && text[length] != b'\n' {
-        length += 1;
-    }
-    length
+    text.iter().position(|byte| *byte == b'\n')
 }
 
 // The first line, and what follows its end if it has one.
 fn cut_line(text: &[u8]) -> (&[u8], Option<&[u8]>)
     ensures { lines text.now ≡ result.0.now ∷ later_lines (option_map (λ x. x.now) result.1) }
 {
-    let length = line_length(text);
-    if length < text.len() {
-        (&text[0..length], Some(&text[length + 1..]))
-    } else {
-        (text, None)
+    match line_end(text) {
+        Some(end) => (&text[..end], Some(&text[end + 1..])),
+        None => (text, None),
     }
 }
 
@@ -81,28 +75,28 @@ fn blank_byte(byte: u8) -> bool
     byte == b' ' || byte == b'\t' || byte == b'\r'
 }
 
-// How many bytes at the front are blanks, or, with `blank` false, are not.
-fn run_length(bytes: &[u8], blank: bool) -> usize
-    ensures within { result ≤ length bytes.now }
-    ensures value { result ≡ prefix_len (λ b. beq (is_blank b) blank) bytes.now }
+// Where the first word begins, if there is one.
+fn word_start(line: &[u8]) -> Option<usize>
+    ensures { result ≡ position (λ b. not (is_blank b)) line.now }
 {
-    let mut length = 0;
-    while length < bytes.len() && blank_byte(bytes[length]) == blank {
-        length += 1;
-    }
-    length
+    line.iter().position(|byte| !blank_byte(*byte))
+}
+
+// Where the first blank stands, if there is one.
+fn word_end(line: &[u8]) -> Option<usize>
+    ensures { result ≡ position is_blank line.now }
+{
+    line.iter().position(|byte| blank_byte(*byte))
 }
 
 // The first word of a line, and what follows it.
 fn cut_word(line: &[u8]) -> Option<(&[u8], &[u8])>
     ensures { WordCut line.now result }
 {
-    let start = &line[run_length(line, true)..];
-    let length = run_length(start, false);
-    if length == 0 {
-        None
-    } else {
-        Some((&start[0..length], &start[length..]))
+    let start = &line[word_start(line)?..];
+    match word_end(start) {
+        Some(end) => Some((&start[..end], &start[end..])),
+        None => Some((start, &[])),
     }
 }
 
@@ -148,20 +142,9 @@ fn mark_place(shadow: &mut Shadow, line: &[u8]) -> Result<(), Cause>
     if cut_word(rest).is_some() {
         return Err(Cause::WordCount);
     }
-    match shadow.add(number(row)?, number(column)?) {
-        Ok(()) => Ok(()),
-        Err(_) => Err(Cause::OffTorus),
-    }
-}
-
-// The number of the line goes with what is wrong with it.
-fn on_line<T>(line: usize, read: Result<T, Cause>) -> Result<T, InputFault>
-    ensures { MatchResult result (λ x. read ≡ Ok x) (λ fault. (fault.line ≡ line) × (read ≡ Err fault.cause)) }
-{
-    match read {
-        Ok(value) => Ok(value),
-        Err(cause) => Err(InputFault { line, cause }),
-    }
+    shadow
+        .add(number(row)?, number(column)?)
+        .map_err(|_| Cause::OffTorus)
 }
 
 pub fn read_shadow(text: &[u8]) -> Result<Shadow, InputFault>
@@ -169,11 +152,11 @@ pub fn read_shadow(text: &[u8]) -> Result<Shadow, InputFault>
 {
     let mut line = 1;
     let (first, mut rest) = cut_line(text);
-    let mut shadow = on_line(line, read_side(first))?;
+    let mut shadow = read_side(first).map_err(|cause| InputFault { line, cause })?;
     while let Some(more) = rest {
         line += 1;
         let (next, after) = cut_line(more);
-        on_line(line, mark_place(&mut shadow, next))?;
+        mark_place(&mut shadow, next).map_err(|cause| InputFault { line, cause })?;
         rest = after;
     }
     Ok(shadow)

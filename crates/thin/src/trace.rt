@@ -1,11 +1,12 @@
 // The printed text: the shadow after each vote, and how its thinning ends.
-ghost use Rattle.std.specs.Prelude.{◌≡◌, ◌<◌, [], ◌∷◌, IfOk, string_bytes, MatchOption};
+ghost use Rattle.std.specs.Prelude.{◌≡◌, ◌<◌, [], ◌∷◌, Some, IfOk, string_bytes, MatchOption};
 ghost use Rattle.thin.specs.Picture.{Appended, mark, row_line, picture, count_line, frame};
 ghost use Rattle.thin.specs.Trace.{Ends, GoesOn, Thinning, ThinningPins, ending_name, ending_line};
 ghost use Rattle.toom.specs.Shadow.{marks, OnTorus};
 ghost use Rattle.toom.specs.ShadowCalls.{Voted};
 
 use std::alloc::{AllocError, Global};
+use std::fmt;
 use toom::shadow::Shadow;
 
 // How a thinning ends.
@@ -16,15 +17,15 @@ enum Ending {
     StillChanging,
 }
 
-impl Ending {
-    fn name(self) -> &'static str
-        ensures { result.now ≡ ending_name self }
-    {
-        match self {
+impl fmt::Display for Ending {
+    ghost output = { λ ending. Some (ending_name ending) };
+
+    fn fmt<W: fmt::Write>(&self, f: &mut fmt::Formatter<W>) -> fmt::Result {
+        f.write_str(match self {
             Ending::Empty => "empty",
             Ending::Unchanged => "unchanged",
             Ending::StillChanging => "still changing",
-        }
+        })
     }
 }
 
@@ -32,9 +33,10 @@ fn mark_of(shadow: &Shadow, row: usize, column: usize) -> &'static str
     requires { OnTorus shadow.now row column }
     ensures { result.now ≡ mark (marks shadow.now row column) ∷ [] }
 {
-    match shadow.holds(row, column) {
-        Some(true) => "s",
-        _ => ".",
+    if shadow.holds(row, column) == Some(true) {
+        "s"
+    } else {
+        "."
     }
 }
 
@@ -57,32 +59,24 @@ fn push_picture(text: &mut String, shadow: &Shadow) -> Result<(), AllocError>
     Ok(())
 }
 
-fn push_count(heap: Global, text: &mut String, shadow: &Shadow) -> Result<(), AllocError>
+fn push_count(text: &mut String, shadow: &Shadow) -> Result<(), AllocError>
     ensures { Appended text.old result text.new (count_line shadow.now.side (marks shadow.now)) }
 {
     let count = shadow.count();
-    let line = format!(in heap; "count {count}\n")?;
-    text.push_str(line.as_str())
+    writeln!(text, "count {count}")
 }
 
-fn push_frame(heap: Global, text: &mut String, shadow: &Shadow) -> Result<(), AllocError>
+fn push_frame(text: &mut String, shadow: &Shadow) -> Result<(), AllocError>
     ensures { Appended text.old result text.new (frame shadow.now.side (marks shadow.now)) }
 {
     push_picture(text, shadow)?;
-    push_count(heap, text, shadow)
+    push_count(text, shadow)
 }
 
-fn push_ending(
-    heap: Global,
-    text: &mut String,
-    ending: Ending,
-    votes: usize,
-) -> Result<(), AllocError>
+fn push_ending(text: &mut String, ending: Ending, votes: usize) -> Result<(), AllocError>
     ensures { Appended text.old result text.new (ending_line ending votes) }
 {
-    let name = ending.name();
-    let line = format!(in heap; "{name} after {votes} votes\n")?;
-    text.push_str(line.as_str())
+    writeln!(text, "{ending} after {votes} votes")
 }
 
 // Votes the shadow to which a thinning has come by so many votes. Says how the thinning ends there, or nothing if it goes on.
@@ -110,9 +104,9 @@ pub fn thinning(heap: Global, mut shadow: Shadow) -> Result<String, AllocError>
     let mut text = String::new(heap);
     let mut votes = 0;
     loop {
-        push_frame(heap, &mut text, &shadow)?;
+        push_frame(&mut text, &shadow)?;
         if let Some(ending) = vote_or_end(&mut shadow, votes) {
-            push_ending(heap, &mut text, ending, votes)?;
+            push_ending(&mut text, ending, votes)?;
             return Ok(text);
         }
         votes += 1;

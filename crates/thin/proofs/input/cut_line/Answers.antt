@@ -1,10 +1,10 @@
-use native.Mathlib.Nat.{sub-zero}
+use Rattle.std.proofs.Common.{sym}
 use Rattle.std.proofs.lemmas.List.{take_rest}
 use Rattle.thin.proofs.Pieces.{line_ended, line_last}
 use Rattle.thin.proofs.input.cut_line.Goals as goal
 
-pub returns-then-length-text : goal.returns-then-length-text
-returns-then-length-text c = rw (sub-zero, take_rest) (line_ended c.args.text.now c.line_length-length.ensures c.if-length-text.true)
+pub returns-in-Some : goal.returns-in-Some
+returns-in-Some c = rw take_rest (line_ended c.args.text.now (sym c.in-Some.ensures))
 
-pub returns-else-length-text : goal.returns-else-length-text
-returns-else-length-text c = line_last c.args.text.now c.line_length-length.ensures c.if-length-text.false
+pub returns-in-None : goal.returns-in-None
+returns-in-None c = line_last c.args.text.now (sym c.in-None.ensures)

@@ -1,13 +1,18 @@
+use Rattle.std.proofs.Common.{sym, ◌∙◌}
 use Rattle.std.proofs.lemmas.List.{take_rest}
-use Rattle.thin.proofs.Pieces.{no_word, one_word, take_from_start}
+use Rattle.thin.proofs.Pieces.{no_word, word_ended, word_last}
 use Rattle.thin.proofs.input.cut_word.Goals as goal
 
-pub returns-then-length-eq0 : goal.returns-then-length-eq0
-returns-then-length-eq0 c =
-    no_word c.args.line.now (take_rest c.args.line.now c.run_length.result) c.run_length.ensures.value c.run_length-length.ensures.value
-    c.if-length-eq0.true
+pub returns-in_err-start : goal.returns-in_err-start
+returns-in_err-start c = rw c.from_residual.ensures (no_word c.args.line.now (sym c.word_start.ensures ∙ c.in_err-start.was))
 
-pub returns-else-length-eq0 : goal.returns-else-length-eq0
-returns-else-length-eq0 c =
-    one_word c.args.line.now (take_rest c.args.line.now c.run_length.result) c.run_length.ensures.value c.run_length-length.ensures.value
-    c.if-length-eq0.false (take_from_start c.run_length-length.result _) (take_rest _ c.run_length-length.result)
+pub returns-in-Some : goal.returns-in-Some
+returns-in-Some c =
+    let start = take_rest c.args.line.now c.in_ok-start.field-0 in
+    let at = sym c.word_start.ensures ∙ c.in_ok-start.was in
+    simp take_rest (word_ended c.args.line.now at (simp take_rest at (sym c.word_end.ensures ∙ c.in-Some.is)))
+
+pub returns-in-None : goal.returns-in-None
+returns-in-None c =
+    let at = sym c.word_start.ensures ∙ c.in_ok-start.was in
+    simp take_rest (word_last c.args.line.now at (simp take_rest at (sym c.word_end.ensures ∙ c.in-None.is)))

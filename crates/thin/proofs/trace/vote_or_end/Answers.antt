@@ -1,6 +1,6 @@
 use Rattle.std.proofs.Common.{◌*◌, sym, ◌∙◌, ap₂}
 use Rattle.toom.proofs.Shadows.{marks_pin}
-use Rattle.thin.proofs.Thinnings.{moved, goes_on}
+use Rattle.thin.proofs.Thinnings.{moved, goes_on, unlike}
 use Rattle.thin.proofs.trace.vote_or_end.Goals as goal
 
 pub returns-then-votes-side : goal.returns-then-votes-side
@@ -9,7 +9,7 @@ returns-then-votes-side c = record {
   cases = (
     c.if-votes-side.true ∙ ap₂ ◌*◌ c.side.ensures c.side-else-eq.ensures,
     λ none. c.if-count-eq0.false (c.count.ensures ∙ none),
-    moved c.args.shadow.now c.vote.new.self (marks_pin) c.vote.ensures c.if-eq.ensures.decides,
+    moved c.args.shadow.now c.vote.new.self (marks_pin) c.vote.ensures (unlike c.vote.new.self c.args.shadow.now c.if-eq.ensures),
   );
 }
 
@@ -18,6 +18,6 @@ returns-else-votes-side c = record {
   after = c.vote.ensures;
   cases = goes_on
       (λ none. c.if-count-eq0.false (c.count.ensures ∙ none))
-      (moved c.args.shadow.now c.vote.new.self (marks_pin) c.vote.ensures c.if-eq.ensures.decides)
+      (moved c.args.shadow.now c.vote.new.self (marks_pin) c.vote.ensures (unlike c.vote.new.self c.args.shadow.now c.if-eq.ensures))
       (λ e. c.if-votes-side.false (e ∙ sym (ap₂ ◌*◌ c.side.ensures c.side-else-eq.ensures)));
 }
