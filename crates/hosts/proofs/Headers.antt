@@ -1,6 +1,5 @@
 -- What a machine file's header says, if it is in order.
-use Rattle.std.proofs.Common.{◌≡◌, ℕ, ◌+◌, ◌-◌, ◌*◌, ◌<◌, ◌≤◌, true, ◌&&◌, eqb, ltb, leb, List, length, None, arith}
-use Rattle.std.proofs.lemmas.Nat.{mul-add-lt}
+use Rattle.std.proofs.Common.{◌≡◌, ℕ, ◌+◌, ◌*◌, ◌≤◌, true, ◌&&◌, eqb, ltb, leb, List, length, None, arith}
 use Rattle.std.proofs.lemmas.Bool.{and_parts, eqb-true, leb-true}
 use Rattle.hosts.specs.MachineFile.{states_in, symbols_in, header_refusal, host_refusal}
 use Rattle.hosts.specs.Refusal.{ask}
@@ -22,8 +21,3 @@ module _ (file : List ℕ) (good : header_refusal file ≡ None) where
 
   pub length_is : length file ≡ 1 + 2 * (states_in file * symbols_in file)
   length_is = eqb-true _ _ (ask_none _ (host_refusal 18 0) None answers.1).0
-
-  -- Both bytes of the entry of a state and a symbol are there.
-  pub entry_within : (q s : ℕ) → 1 ≤ q → q ≤ states_in file → s < symbols_in file
-      → 2 + 2 * ((q - 1) * symbols_in file + s) < length file
-  entry_within q s least most less = omega (arith, length_is, mul-add-lt (q - 1) (symbols_in file) s (states_in file) (omega arith) less)

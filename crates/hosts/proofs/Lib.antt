@@ -3,9 +3,9 @@ pub mod FileBytes
 pub mod FileEntries
 pub mod FilesRead
 pub mod FilesWritten
+pub mod Filling
 pub mod Headers
 pub mod MachineFiles
-pub mod MachineRules
 pub mod Machines
 pub mod Motions
 pub mod Questions

@@ -1,5 +1,5 @@
 -- Questions asked of one item after the other.
-use Rattle.std.proofs.Common.{◌≡◌, ℕ, zero, suc, ◌+◌, ◌<◌, Bool, true, false, Some, None, Option, refl, ap, ◌∙◌, subst, inl, inr, add-one, arith}
+use Rattle.std.proofs.Common.{◌≡◌, ℕ, zero, suc, ◌+◌, ◌<◌, Bool, true, false, IsNone, Some, None, Option, refl, ap, ◌∙◌, subst, inl, inr, add-one, arith}
 use Rattle.std.proofs.lemmas.Bool.{cases_lt}
 use Rattle.std.specs.Option.{option_or}
 use Rattle.hosts.specs.Refusal.{Refusal, ask, ask_each}
@@ -12,6 +12,10 @@ ask_none false r later h = let z : ◌≡◌ {A = ℕ} 0 1 = cc in absurd (omega
 pub or_none : {X : Type 0} (o p : Option X) → option_or o p ≡ None → (o ≡ None) × (p ≡ None)
 or_none None p h = (refl, h)
 or_none (Some x) p h = let z : ◌≡◌ {A = ℕ} 0 1 = cc in absurd (omega arith)
+
+pub none_is : {X : Type 0} (o : Option X) → IsNone o → o ≡ None
+none_is None none = refl
+none_is (Some x) none = cc
 
 module _ (q : ℕ → Option Refusal) where
   -- one item more

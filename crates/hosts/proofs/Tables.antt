@@ -15,6 +15,15 @@ use Rattle.hosts.proofs.Questions.{ask_none, or_none, asked_each}
 pub has_parts : (states symbols q s : ℕ) → has_entry states symbols q s ≡ true → (1 ≤ q) × (q ≤ states) × (s < symbols)
 has_parts states symbols q s h = grind (arith, nat_tests)
 
+-- The slot of a state and a symbol that the machine of the file has.
+pub slot_of : (file : List ℕ) (q s : ℕ) → has_entry (states_in file) (symbols_in file) q s ≡ true
+    → slot_in file (16 * q + s) ≡ entry_in file ((q - 1) * symbols_in file + s)
+slot_of file q s h =
+    let parts = has_parts (states_in file) (symbols_in file) q s h in
+    let row : (16 * q + s) / 16 ≡ q = omega arith in
+    let column : (16 * q + s) % 16 ≡ s = omega arith in
+    rw (row, column) (cond-true _ _ blank h)
+
 -- The table is that of the file, for these numbers of states and symbols.
 pub record Filled (file : List ℕ) (table : List Entry) (states symbols : ℕ) : Type 0 where
   pub sized : Sizes states symbols
@@ -73,13 +82,7 @@ module _ (file : List ℕ) (bytes : Bytes file) (good : machine_refusal file ≡
     unused i h = subst IsBlank (sym (every_slot i ∙ cond-false _ _ blank h)) (refl, refl, refl)
 
     entries : (q s : ℕ) → has_entry Q S q s ≡ true → get_or table (16 * q + s) blank ≡ entry_in file ((q - 1) * S + s)
-    entries q s h =
-        let parts = has_parts Q S q s h in
-        let many = sizes in
-        let row : (16 * q + s) / 16 ≡ q = omega arith in
-        let column : (16 * q + s) % 16 ≡ s = omega arith in
-        every_slot (16 * q + s) ∙ ap₂ (λ a b. cond (has_entry Q S a b) (entry_in file ((a - 1) * S + b)) blank) row column
-        ∙ cond-true _ _ blank h
+    entries q s h = every_slot (16 * q + s) ∙ slot_of file q s h
 
     pub filled : (states symbols : ℕ) → states ≡ Q → symbols ≡ S → Filled file table states symbols
     filled states symbols p q =

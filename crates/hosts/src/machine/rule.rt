@@ -12,7 +12,7 @@ impl Machine {
     fn entry(&self, cell: MachineCell) -> Option<Entry>
         ensures { result ≡ entry_of self.now cell }
     {
-        if 1 <= cell.head && cell.head <= self.states && cell.symbol < self.symbols {
+        if (1..=self.states).contains(&cell.head) && cell.symbol < self.symbols {
             Some(self.table[(16 * cell.head + cell.symbol) as usize])
         } else {
             None
@@ -24,31 +24,24 @@ impl Machine {
 fn if_moving(entry: Option<Entry>, motion: Motion) -> Option<Entry>
     ensures { result ≡ moving motion entry }
 {
-    let e = entry?;
-    if e.motion == motion { Some(e) } else { None }
+    entry.filter(|e| e.motion == motion)
 }
 
 // The state that arrives at the centre, or 0.
 fn next_head(left: Option<Entry>, centre: Option<Entry>, right: Option<Entry>) -> u8
     ensures { result ≡ (new_head (arriving left centre right)).value }
 {
-    let arrived = if_moving(centre, Motion::Stay)
+    if_moving(centre, Motion::Stay)
         .or(if_moving(left, Motion::Right))
-        .or(if_moving(right, Motion::Left));
-    match arrived {
-        Some(e) => e.next,
-        None => 0,
-    }
+        .or(if_moving(right, Motion::Left))
+        .map_or(0, |e| e.next)
 }
 
 // The symbol that the centre's entry writes, or the centre's own.
 fn next_symbol(centre: MachineCell, own: Option<Entry>) -> u8
     ensures { result ≡ (new_symbol centre own).value }
 {
-    match own {
-        Some(e) => e.symbol,
-        None => centre.symbol,
-    }
+    own.map_or(centre.symbol, |e| e.symbol)
 }
 
 impl Host<MachineCell> for Machine {
