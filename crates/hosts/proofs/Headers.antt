@@ -1,5 +1,5 @@
 -- What a machine file's header says, if it is in order.
-use Rattle.std.proofs.Common.{◌≡◌, ℕ, ◌+◌, ◌*◌, ◌≤◌, true, ◌&&◌, eqb, ltb, leb, List, length, None, arith}
+use Rattle.std.proofs.Common.{◌≡◌, ℕ, ◌+◌, ◌*◌, ◌≤◌, true, ◌&&◌, eqb, ltb, leb, List, length, None}
 use Rattle.std.proofs.lemmas.Bool.{and_parts, eqb-true, leb-true}
 use Rattle.hosts.specs.MachineFile.{states_in, symbols_in, header_refusal, host_refusal}
 use Rattle.hosts.specs.Refusal.{ask}

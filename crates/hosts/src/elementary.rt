@@ -1,6 +1,5 @@
 // The elementary host: one of Wolfram's 256 rules on bits.
-ghost use Rattle.std.specs.Prelude.{◌≡◌, ◌<◌, if◌then◌else◌};
-ghost use Rattle.toom.specs.declared.bit.Bit.TheVariants.{Zero, One};
+ghost use Rattle.std.specs.Prelude.{◌≡◌, ◌<◌};
 ghost use Rattle.hosts.specs.Elementary.{bit_number, wolfram};
 
 use crate::host::Host;
@@ -20,12 +19,6 @@ fn bit_number(left: Bit, centre: Bit, right: Bit) -> u8
     4 * left.byte() + 2 * centre.byte() + right.byte()
 }
 
-fn bit_of(set: bool) -> Bit
-    ensures { result ≡ (if set then One else Zero) }
-{
-    if set { Bit::One } else { Bit::Zero }
-}
-
 impl Host<Bit> for Elementary {
     ghost meaning = { λ host. wolfram host.rule };
 
@@ -33,6 +26,6 @@ impl Host<Bit> for Elementary {
         ensures { result ≡ wolfram self.now.rule left centre right }
     {
         let number = bit_number(left, centre, right);
-        bit_of((self.rule >> number) % 2 == 1)
+        Bit::from((self.rule >> number) % 2 == 1)
     }
 }

@@ -6,7 +6,7 @@ use toom::kind::Kind;
 
 // The only cell that more than half of the cells can be: unlike cells are paired off, and it is what is left over.
 fn candidate<C: Kind>(plane: &[C], first: C) -> C
-    ensures { (x : C) → length plane.now < 2 * holders C.equal x plane.now → x ≡ result }
+    ensures { (x : C) → length plane.now < 2 * holders C.eq x plane.now → x ≡ result }
 {
     let mut cell = first;
     let mut left: usize = 0;
@@ -25,7 +25,7 @@ fn candidate<C: Kind>(plane: &[C], first: C) -> C
 
 // How many of the cells are this one.
 fn count_same<C: Kind>(plane: &[C], cell: C) -> usize
-    ensures { result ≡ holders C.equal cell plane.now }
+    ensures { result ≡ holders C.eq cell plane.now }
 {
     let mut count: usize = 0;
     for x in plane {
@@ -37,7 +37,7 @@ fn count_same<C: Kind>(plane: &[C], cell: C) -> usize
 }
 
 pub fn majority<C: Kind>(plane: &[C]) -> Option<C>
-    ensures { result ≡ majority_of C.equal plane.now }
+    ensures { result ≡ majority_of C.eq plane.now }
 {
     if plane.len() == 0 {
         return None;

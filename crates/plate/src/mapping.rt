@@ -10,7 +10,7 @@ use toom::kind::Kind;
 
 // 1 if the copy differs from the line, else 0.
 fn hurt<C: Kind>(copy: C, line: C) -> u16
-    ensures { result ≡ wounded C.equal line copy }
+    ensures { result ≡ wounded C.eq line copy }
 {
     if copy.same(line) { 0 } else { 1 }
 }
@@ -19,7 +19,7 @@ fn hurt<C: Kind>(copy: C, line: C) -> u16
 fn add_hurt<C: Kind>(counts: &mut [u16], plane: &[C], line: C)
     requires room { length plane.now ≤ length counts.old }
     requires low { (k : ℕ) → k < length plane.now → slice_index counts.old k ≤ 4096 }
-    ensures places { (k : ℕ) (d : C) → k < length plane.now → slice_index counts.new k ≡ slice_index counts.old k + wounded C.equal line (slice_index_or plane.now k d) }
+    ensures places { (k : ℕ) (d : C) → k < length plane.now → slice_index counts.new k ≡ slice_index counts.old k + wounded C.eq line (slice_index_or plane.now k d) }
     ensures rest { (k : ℕ) → length plane.now ≤ k → slice_index counts.new k ≡ slice_index counts.old k }
 {
     for k in 0..plane.len() {
@@ -42,7 +42,7 @@ pub(crate) fn write_map<C: Kind>(cells: &[C], planes: usize, side: usize, out: &
     requires side { side ≤ 64 }
     requires size { size_of planes side ≤ length cells.now }
     requires room { side * side ≤ length out.old }
-    ensures { (d : C) → out.new ≡ map (hurt_at C.equal planes side cells.now d) (range_with_len 0 (side * side)) ++ drop (side * side) out.old }
+    ensures { (d : C) → out.new ≡ map (hurt_at C.eq planes side cells.now d) (range_with_len 0 (side * side)) ++ drop (side * side) out.old }
 {
     let area = side * side;
     let lines = 2 * (planes * area);

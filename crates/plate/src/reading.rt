@@ -20,7 +20,7 @@ pub(crate) fn plane_at<C: Kind>(cells: &[C], start: usize, area: usize) -> &[C]
 pub(crate) fn first_split<C: Kind>(cells: &[C], planes: usize, side: usize) -> Option<usize>
     requires side { side ≤ 64 }
     requires size { size_of planes side ≤ length cells.now }
-    ensures { ask_each (plane_question C.equal cells.now side) planes ≡ option_map (read_refusal 16) result }
+    ensures { ask_each (plane_question C.eq cells.now side) planes ≡ option_map (read_refusal 16) result }
 {
     let area = side * side;
     let mut start = 0;
@@ -38,7 +38,7 @@ pub(crate) fn write_reading<C: Kind>(cells: &[C], planes: usize, side: usize, ou
     requires side { side ≤ 64 }
     requires size { size_of planes side ≤ length cells.now }
     requires room { planes ≤ length out.old }
-    ensures { out.new ≡ reading C.equal C.byte_of planes side cells.now ++ drop planes out.old }
+    ensures { out.new ≡ reading C.eq C.byte_of planes side cells.now ++ drop planes out.old }
 {
     let area = side * side;
     let mut start = 0;

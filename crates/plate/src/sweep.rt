@@ -62,7 +62,7 @@ fn vote_row<C: Kind>(cells: &mut [C], to: usize, north: usize, own: usize, side:
     requires to { to + side ≤ length cells.old }
     requires north { north + side ≤ to }
     requires own { own + side ≤ to }
-    ensures { Swept to side (RowVotes C.equal north own side cells.old) cells.old cells.new }
+    ensures { Swept to side (RowVotes C.eq north own side cells.old) cells.old cells.new }
 {
     let last = side - 1;
     fill(&Ballot, cells, to, north, own + 1, own, last);
@@ -74,7 +74,7 @@ fn vote_plane<C: Kind>(cells: &mut [C], to: usize, own: usize, side: usize)
     requires side { Side side }
     requires to { to + side * side ≤ length cells.old }
     requires own { own + side * side ≤ to }
-    ensures { Swept to (side * side) (PlaneVotes C.equal own side cells.old) cells.old cells.new }
+    ensures { Swept to (side * side) (PlaneVotes C.eq own side cells.old) cells.old cells.new }
 {
     let last = side - 1;
     for r in 0..last {
@@ -89,7 +89,7 @@ fn vote_plane<C: Kind>(cells: &mut [C], to: usize, own: usize, side: usize)
 fn vote_planes<C: Kind>(cells: &mut [C], planes: usize, side: usize)
     requires side { Side side }
     requires within { 2 * (planes * (side * side)) ≤ length cells.old }
-    ensures { Swept (planes * (side * side)) (planes * (side * side)) (PlanesVotes C.equal planes side cells.old) cells.old cells.new }
+    ensures { Swept (planes * (side * side)) (planes * (side * side)) (PlanesVotes C.eq planes side cells.old) cells.old cells.new }
 {
     let area = side * side;
     let votes = planes * area;
@@ -137,7 +137,7 @@ pub(crate) fn beat_cells<C: Kind, H: Host<C>>(host: &H, cells: &mut [C], planes:
     requires some { 1 ≤ planes }
     requires side { Side side }
     requires within { size_of planes side ≤ length cells.old }
-    ensures { CellsBeaten C.equal (H.meaning host.now) planes side cells.old cells.new }
+    ensures { CellsBeaten C.eq (H.meaning host.now) planes side cells.old cells.new }
 {
     let area = side * side;
     let voted = planes * area;

@@ -9,21 +9,21 @@ use toom::kind::Kind;
 
 // No report is longer than REPORT_BYTES.
 pub fn report_fits<C: Kind>()
-    ensures { ReportFits (members C.equal C.byte_of C.cell_of) }
+    ensures { ReportFits (members C.eq C.byte_of C.cell_of) }
 {}
 
 // The outcome of a report settles its end: the answer and every byte of the output.
 pub fn report_pins<C: Kind>()
-    ensures { ReportPins (members C.equal C.byte_of C.cell_of) }
+    ensures { ReportPins (members C.eq C.byte_of C.cell_of) }
 {}
 
 // A report tells of the faultless run: the map counts the copies that differ from it, all of them in the shadow, and while the shadow covers fewer
 // than half of the places the tape is the run's.
 pub fn report_tells<C: Kind>()
-    ensures { ReportsTell (members C.equal C.byte_of C.cell_of) }
+    ensures { ReportsTell (members C.eq C.byte_of C.cell_of) }
 {}
 
 // The healing laws hold after every list of calls on one new plate, runs and reports among them.
 pub fn session_heals<C: Kind>()
-    ensures { SessionHeals (members C.equal C.byte_of C.cell_of) }
+    ensures { SessionHeals (members C.eq C.byte_of C.cell_of) }
 {}

@@ -17,15 +17,15 @@ pub const REPORT_BYTES: usize = 12_396;
 
 // Writes the report at the front of the output, and answers its length.
 pub fn report<C: Kind>(plate: &Plate<'_, C>, out: &mut [u8]) -> Result<usize, ReportFault>
-    ensures outcome { ReportAnswers (members C.equal C.byte_of C.cell_of) result (board plate.now) out.old out.new }
-    ensures heals { ReportHeals (members C.equal C.byte_of C.cell_of) (board plate.now) }
+    ensures outcome { ReportAnswers (members C.eq C.byte_of C.cell_of) result (board plate.now) out.old out.new }
+    ensures heals { ReportHeals (members C.eq C.byte_of C.cell_of) (board plate.now) }
 {
     try_report(plate, out)
 }
 
 // Asks its questions and the plate in order, and only then writes.
 fn try_report<C: Kind>(plate: &Plate<'_, C>, out: &mut [u8]) -> Result<usize, ReportFault>
-    ensures { ReportAnswers (members C.equal C.byte_of C.cell_of) result (board plate.now) out.old out.new }
+    ensures { ReportAnswers (members C.eq C.byte_of C.cell_of) result (board plate.now) out.old out.new }
 {
     let laid = plate.standing().ok_or(ReportFault::Bare)?;
     if out.len() < REPORT_BYTES {
@@ -49,7 +49,7 @@ fn try_report<C: Kind>(plate: &Plate<'_, C>, out: &mut [u8]) -> Result<usize, Re
 
 // Reads the plate. Answers the first plane that has no majority, if there is one: then the tape is not written.
 fn read_tape<C: Kind>(plate: &Plate<'_, C>, tape: &mut [u8]) -> Result<Option<usize>, ReportFault>
-    ensures { TapeAnswers (members C.equal C.byte_of C.cell_of) result (board plate.now) tape.old tape.new }
+    ensures { TapeAnswers (members C.eq C.byte_of C.cell_of) result (board plate.now) tape.old tape.new }
 {
     match plate.read(tape) {
         Ok(()) => Ok(None),

@@ -46,7 +46,7 @@ fn reply_of<C: Kind + Clone, H: Entry<C>>(
     file: &[u8],
     out: &mut [u8],
 ) -> anyhow::Result<usize>
-    ensures replied { IfOk result (λ n. Replied (members C.equal C.byte_of C.cell_of) (entrant H.number H.questions H.is_in H.Host.meaning) file.now n out.old out.new) }
+    ensures replied { IfOk result (λ n. Replied (members C.eq C.byte_of C.cell_of) (entrant H.number H.questions H.is_in H.Host.meaning) file.now n out.old out.new) }
     ensures within { IfOk result (λ n. n ≤ length out.new) }
 {
     let mut cells = vec![in heap; blank; ROUND_CELLS]?;

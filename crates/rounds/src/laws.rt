@@ -9,9 +9,9 @@ use toom::kind::Kind;
 
 // The outcome of a play settles its end: the answer, every cell of the memory and every byte of the output. So do those of reply and refused.
 pub fn rounds_pin<C: Kind, H: Entry<C>>()
-    ensures play { PlayPins (members C.equal C.byte_of C.cell_of) (entrant H.number H.questions H.is_in H.Host.meaning) }
+    ensures play { PlayPins (members C.eq C.byte_of C.cell_of) (entrant H.number H.questions H.is_in H.Host.meaning) }
     ensures faults { PlayFaultsPin }
-    ensures reply { ReplyPins (members C.equal C.byte_of C.cell_of) (entrant H.number H.questions H.is_in H.Host.meaning) }
+    ensures reply { ReplyPins (members C.eq C.byte_of C.cell_of) (entrant H.number H.questions H.is_in H.Host.meaning) }
     ensures refused { RefusedPins }
 {}
 

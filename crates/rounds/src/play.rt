@@ -23,7 +23,7 @@ fn admit<'a, C: Kind, H: Entry<C>>(
     memory: usize,
     room: usize,
 ) -> Result<(Round<'a>, H), PlayFault>
-    ensures { MatchResult result (λ x. (play_questions (members C.equal C.byte_of C.cell_of) (entrant H.number H.questions H.is_in H.Host.meaning) file.now memory room ≡ None) × RoundIn file.now x.0 × H.is_in (host_in file.now) x.1) (λ e. play_questions (members C.equal C.byte_of C.cell_of) (entrant H.number H.questions H.is_in H.Host.meaning) file.now memory room ≡ Some (play_fault e)) }
+    ensures { MatchResult result (λ x. (play_questions (members C.eq C.byte_of C.cell_of) (entrant H.number H.questions H.is_in H.Host.meaning) file.now memory room ≡ None) × RoundIn file.now x.0 × H.is_in (host_in file.now) x.1) (λ e. play_questions (members C.eq C.byte_of C.cell_of) (entrant H.number H.questions H.is_in H.Host.meaning) file.now memory room ≡ Some (play_fault e)) }
 {
     let round = Round::read(H::kind(), file)?;
     if room < REPORT_BYTES {
@@ -45,7 +45,7 @@ fn perform<C: Kind, H: Entry<C>>(
     requires lays { lay_questions C.cell_of round.planes round.side round.tape.now (length memory.old) ≡ None }
     requires runs { shape_questions C.cell_of round.planes round.side 0 round.beats round.script.now ≡ None }
     requires room { 12396 ≤ length out.old }
-    ensures { MatchResult result (λ n. Performs (members C.equal C.byte_of C.cell_of) (H.Host.meaning host.now) round.entry.planes round.entry.side round.entry.beats round.entry.tape.now round.entry.script.now n memory.old memory.new out.old out.new) (λ _. ⊥) }
+    ensures { MatchResult result (λ n. Performs (members C.eq C.byte_of C.cell_of) (H.Host.meaning host.now) round.entry.planes round.entry.side round.entry.beats round.entry.tape.now round.entry.script.now n memory.old memory.new out.old out.new) (λ _. ⊥) }
 {
     let mut plate = Plate::new(memory);
     plate.lay(round.planes, round.side, round.tape)?;
@@ -61,8 +61,8 @@ pub fn play<C: Kind, H: Entry<C>>(
     file: &[u8],
     out: &mut [u8],
 ) -> Result<usize, PlayFault>
-    ensures outcome { PlayAnswers (members C.equal C.byte_of C.cell_of) (entrant H.number H.questions H.is_in H.Host.meaning) file.now result memory.old memory.new out.old out.new }
-    ensures heals { PlayHeals (members C.equal C.byte_of C.cell_of) (entrant H.number H.questions H.is_in H.Host.meaning) file.now result memory.old memory.new out.old out.new }
+    ensures outcome { PlayAnswers (members C.eq C.byte_of C.cell_of) (entrant H.number H.questions H.is_in H.Host.meaning) file.now result memory.old memory.new out.old out.new }
+    ensures heals { PlayHeals (members C.eq C.byte_of C.cell_of) (entrant H.number H.questions H.is_in H.Host.meaning) file.now result memory.old memory.new out.old out.new }
 {
     let (round, host) = admit::<C, H>(file, memory.len(), out.len())?;
     perform(memory, round, &host, out)

@@ -16,7 +16,7 @@ pub fn reply<C: Kind, H: Entry<C>>(
     file: &[u8],
     out: &mut [u8],
 ) -> Result<usize, RefusedFault>
-    ensures outcome { Replies (members C.equal C.byte_of C.cell_of) (entrant H.number H.questions H.is_in H.Host.meaning) file.now result memory.old memory.new out.old out.new }
+    ensures outcome { Replies (members C.eq C.byte_of C.cell_of) (entrant H.number H.questions H.is_in H.Host.meaning) file.now result memory.old memory.new out.old out.new }
     ensures within { IfOk result (λ n. n ≤ length out.new) }
 {
     match play::<C, H>(memory, file, out) {

@@ -6,6 +6,6 @@ use toom::kind::Kind;
 
 // The outcome of a run settles its end: the answer, every cell and the state.
 pub fn runs_pin<C: Kind>()
-    ensures ends { RunsPin (members C.equal C.byte_of C.cell_of) }
+    ensures ends { RunsPin (members C.eq C.byte_of C.cell_of) }
     ensures faults { RunFaultsPin }
 {}

@@ -20,7 +20,7 @@ fn beat_times<C: Kind, H: Host<C>>(
     times: u32,
 ) -> Result<(), RunFault>
     requires { YoungFor times (board plate.old) }
-    ensures outcome { MatchResult result (λ _. Leads (members C.equal C.byte_of C.cell_of) (beats_alone (H.meaning host.now) times) (board plate.old) (board plate.new)) (λ _. ⊥) }
+    ensures outcome { MatchResult result (λ _. Leads (members C.eq C.byte_of C.cell_of) (beats_alone (H.meaning host.now) times) (board plate.old) (board plate.new)) (λ _. ⊥) }
     ensures older { Older times (board plate.old) (board plate.new) }
     ensures same { plate.new.cells.ghost_name ≡ plate.old.cells.ghost_name }
 {
@@ -38,7 +38,7 @@ fn play<C: Kind, H: Host<C>>(
     beats: u32,
 ) -> Result<(), RunFault>
     requires { run_questions C.cell_of (board plate.old) beats script.now ≡ None }
-    ensures outcome { MatchResult result (λ _. Leads (members C.equal C.byte_of C.cell_of) (calls_of_run (H.meaning host.now) script.now beats) (board plate.old) (board plate.new)) (λ _. ⊥) }
+    ensures outcome { MatchResult result (λ _. Leads (members C.eq C.byte_of C.cell_of) (calls_of_run (H.meaning host.now) script.now beats) (board plate.old) (board plate.new)) (λ _. ⊥) }
     ensures same { plate.new.cells.ghost_name ≡ plate.old.cells.ghost_name }
 {
     let mut done = 0;
@@ -60,7 +60,7 @@ fn try_run<C: Kind, H: Host<C>>(
     script: &[u8],
     beats: u32,
 ) -> Result<(), RunFault>
-    ensures outcome { RunAnswers (members C.equal C.byte_of C.cell_of) (H.meaning host.now) script.now beats result (board plate.old) (board plate.new) }
+    ensures outcome { RunAnswers (members C.eq C.byte_of C.cell_of) (H.meaning host.now) script.now beats result (board plate.old) (board plate.new) }
     ensures same { plate.new.cells.ghost_name ≡ plate.old.cells.ghost_name }
 {
     let laid = plate.standing().ok_or(RunFault::Bare)?;
@@ -76,8 +76,8 @@ pub fn run<C: Kind, H: Host<C>>(
     script: &[u8],
     beats: u32,
 ) -> Result<(), RunFault>
-    ensures outcome { RunAnswers (members C.equal C.byte_of C.cell_of) (H.meaning host.now) script.now beats result (board plate.old) (board plate.new) }
-    ensures heals { RunGoesOn (members C.equal C.byte_of C.cell_of) (H.meaning host.now) script.now beats result (board plate.old) (board plate.new) }
+    ensures outcome { RunAnswers (members C.eq C.byte_of C.cell_of) (H.meaning host.now) script.now beats result (board plate.old) (board plate.new) }
+    ensures heals { RunGoesOn (members C.eq C.byte_of C.cell_of) (H.meaning host.now) script.now beats result (board plate.old) (board plate.new) }
     ensures same { plate.new.cells.ghost_name ≡ plate.old.cells.ghost_name }
 {
     try_run(plate, host, script, beats)

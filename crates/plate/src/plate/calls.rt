@@ -16,7 +16,7 @@ use toom::kind::Kind;
 impl<'a, C: Kind> Plate<'a, C> {
     // A bare plate over these cells, none of which it touches.
     pub fn new(cells: &'a mut [C]) -> Plate<'a, C>
-        ensures reached { Reached (members C.equal C.byte_of C.cell_of) [] (board result) }
+        ensures reached { Reached (members C.eq C.byte_of C.cell_of) [] (board result) }
         ensures cells { result.cells.now ≡ cells.old }
         ensures same { result.cells.ghost_name ≡ cells.entry.ghost_name }
     {
@@ -37,8 +37,8 @@ impl<'a, C: Kind> Plate<'a, C> {
 
     // Every copy, voted copy and line cell becomes the cell that the tape names; the shadow is empty, the age 0.
     pub fn lay(&mut self, planes: usize, side: usize, tape: &[u8]) -> Result<(), LayFault>
-        ensures outcome { Answers (members C.equal C.byte_of C.cell_of) lay_fault (Lay planes side tape.now) result (board self.old) (board self.new) }
-        ensures heals { GoesOn (members C.equal C.byte_of C.cell_of) (Lay planes side tape.now) result (board self.old) (board self.new) }
+        ensures outcome { Answers (members C.eq C.byte_of C.cell_of) lay_fault (Lay planes side tape.now) result (board self.old) (board self.new) }
+        ensures heals { GoesOn (members C.eq C.byte_of C.cell_of) (Lay planes side tape.now) result (board self.old) (board self.new) }
         ensures same { self.new.cells.ghost_name ≡ self.old.cells.ghost_name }
     {
         self.try_lay(planes, side, tape)
@@ -52,8 +52,8 @@ impl<'a, C: Kind> Plate<'a, C> {
         column: usize,
         byte: u8,
     ) -> Result<(), StrikeFault>
-        ensures outcome { Answers (members C.equal C.byte_of C.cell_of) strike_fault (Strike plane row column byte) result (board self.old) (board self.new) }
-        ensures heals { GoesOn (members C.equal C.byte_of C.cell_of) (Strike plane row column byte) result (board self.old) (board self.new) }
+        ensures outcome { Answers (members C.eq C.byte_of C.cell_of) strike_fault (Strike plane row column byte) result (board self.old) (board self.new) }
+        ensures heals { GoesOn (members C.eq C.byte_of C.cell_of) (Strike plane row column byte) result (board self.old) (board self.new) }
         ensures same { self.new.cells.ghost_name ≡ self.old.cells.ghost_name }
     {
         self.try_strike(plane, row, column, byte)
@@ -61,8 +61,8 @@ impl<'a, C: Kind> Plate<'a, C> {
 
     // All planes are voted, then every copy and the line step by the host, and the shadow is voted.
     pub fn beat<H: Host<C>>(&mut self, host: &H) -> Result<(), BeatFault>
-        ensures outcome { Answers (members C.equal C.byte_of C.cell_of) beat_fault (Beat (H.meaning host.now)) result (board self.old) (board self.new) }
-        ensures heals { GoesOn (members C.equal C.byte_of C.cell_of) (Beat (H.meaning host.now)) result (board self.old) (board self.new) }
+        ensures outcome { Answers (members C.eq C.byte_of C.cell_of) beat_fault (Beat (H.meaning host.now)) result (board self.old) (board self.new) }
+        ensures heals { GoesOn (members C.eq C.byte_of C.cell_of) (Beat (H.meaning host.now)) result (board self.old) (board self.new) }
         ensures same { self.new.cells.ghost_name ≡ self.old.cells.ghost_name }
     {
         self.try_beat(host)
@@ -70,24 +70,24 @@ impl<'a, C: Kind> Plate<'a, C> {
 
     // For each plane the byte of the cell that more than half of its copies hold.
     pub fn read(&self, out: &mut [u8]) -> Result<(), ReadFault>
-        ensures outcome { Answers (members C.equal C.byte_of C.cell_of) read_fault (Read out.old out.new) result (board self.now) (board self.now) }
-        ensures heals { GoesOn (members C.equal C.byte_of C.cell_of) (Read out.old out.new) result (board self.now) (board self.now) }
+        ensures outcome { Answers (members C.eq C.byte_of C.cell_of) read_fault (Read out.old out.new) result (board self.now) (board self.now) }
+        ensures heals { GoesOn (members C.eq C.byte_of C.cell_of) (Read out.old out.new) result (board self.now) (board self.now) }
     {
         self.try_read(out)
     }
 
     // For each place how many copies differ from their cell of the line.
     pub fn map(&self, out: &mut [u16]) -> Result<(), MapFault>
-        ensures outcome { Answers (members C.equal C.byte_of C.cell_of) map_fault (Map out.old out.new) result (board self.now) (board self.now) }
-        ensures heals { GoesOn (members C.equal C.byte_of C.cell_of) (Map out.old out.new) result (board self.now) (board self.now) }
+        ensures outcome { Answers (members C.eq C.byte_of C.cell_of) map_fault (Map out.old out.new) result (board self.now) (board self.now) }
+        ensures heals { GoesOn (members C.eq C.byte_of C.cell_of) (Map out.old out.new) result (board self.now) (board self.now) }
     {
         self.try_map(out)
     }
 
     // The shadow, a word a row.
     pub fn shadow(&self, out: &mut [u64]) -> Result<(), ShadowFault>
-        ensures outcome { Answers (members C.equal C.byte_of C.cell_of) shadow_fault (Show out.old out.new) result (board self.now) (board self.now) }
-        ensures heals { GoesOn (members C.equal C.byte_of C.cell_of) (Show out.old out.new) result (board self.now) (board self.now) }
+        ensures outcome { Answers (members C.eq C.byte_of C.cell_of) shadow_fault (Show out.old out.new) result (board self.now) (board self.now) }
+        ensures heals { GoesOn (members C.eq C.byte_of C.cell_of) (Show out.old out.new) result (board self.now) (board self.now) }
     {
         self.try_shadow(out)
     }

@@ -22,7 +22,7 @@ impl<'a, C: Kind> Plate<'a, C> {
         side: usize,
         tape: &[u8],
     ) -> Result<(), LayFault>
-        ensures outcome { Answers (members C.equal C.byte_of C.cell_of) lay_fault (Lay planes side tape.now) result (board self.old) (board self.new) }
+        ensures outcome { Answers (members C.eq C.byte_of C.cell_of) lay_fault (Lay planes side tape.now) result (board self.old) (board self.new) }
         ensures same { self.new.cells.ghost_name ≡ self.old.cells.ghost_name }
     {
         let shadow = check_lay::<C>(planes, side, tape, self.cells.len())?;
@@ -42,7 +42,7 @@ impl<'a, C: Kind> Plate<'a, C> {
         column: usize,
         byte: u8,
     ) -> Result<(), StrikeFault>
-        ensures outcome { Answers (members C.equal C.byte_of C.cell_of) strike_fault (Strike plane row column byte) result (board self.old) (board self.new) }
+        ensures outcome { Answers (members C.eq C.byte_of C.cell_of) strike_fault (Strike plane row column byte) result (board self.old) (board self.new) }
         ensures same { self.new.cells.ghost_name ≡ self.old.cells.ghost_name }
     {
         let mut laid = self.standing().ok_or(StrikeFault::Bare)?;
@@ -59,7 +59,7 @@ impl<'a, C: Kind> Plate<'a, C> {
     }
 
     pub(crate) fn try_beat<H: Host<C>>(&mut self, host: &H) -> Result<(), BeatFault>
-        ensures outcome { Answers (members C.equal C.byte_of C.cell_of) beat_fault (Beat (H.meaning host.now)) result (board self.old) (board self.new) }
+        ensures outcome { Answers (members C.eq C.byte_of C.cell_of) beat_fault (Beat (H.meaning host.now)) result (board self.old) (board self.new) }
         ensures same { self.new.cells.ghost_name ≡ self.old.cells.ghost_name }
     {
         let mut laid = self.standing().ok_or(BeatFault::Bare)?;
@@ -75,7 +75,7 @@ impl<'a, C: Kind> Plate<'a, C> {
     }
 
     pub(crate) fn try_read(&self, out: &mut [u8]) -> Result<(), ReadFault>
-        ensures { Answers (members C.equal C.byte_of C.cell_of) read_fault (Read out.old out.new) result (board self.now) (board self.now) }
+        ensures { Answers (members C.eq C.byte_of C.cell_of) read_fault (Read out.old out.new) result (board self.now) (board self.now) }
     {
         let laid = self.standing().ok_or(ReadFault::Bare)?;
         if out.len() < laid.planes {
@@ -90,7 +90,7 @@ impl<'a, C: Kind> Plate<'a, C> {
     }
 
     pub(crate) fn try_map(&self, out: &mut [u16]) -> Result<(), MapFault>
-        ensures { Answers (members C.equal C.byte_of C.cell_of) map_fault (Map out.old out.new) result (board self.now) (board self.now) }
+        ensures { Answers (members C.eq C.byte_of C.cell_of) map_fault (Map out.old out.new) result (board self.now) (board self.now) }
     {
         let laid = self.standing().ok_or(MapFault::Bare)?;
         let side = laid.shadow.side();
@@ -102,7 +102,7 @@ impl<'a, C: Kind> Plate<'a, C> {
     }
 
     pub(crate) fn try_shadow(&self, out: &mut [u64]) -> Result<(), ShadowFault>
-        ensures { Answers (members C.equal C.byte_of C.cell_of) shadow_fault (Show out.old out.new) result (board self.now) (board self.now) }
+        ensures { Answers (members C.eq C.byte_of C.cell_of) shadow_fault (Show out.old out.new) result (board self.now) (board self.now) }
     {
         let laid = self.standing().ok_or(ShadowFault::Bare)?;
         laid.shadow.write(out)?;

@@ -5,4 +5,4 @@ use Rattle.plate.proofs.laws.always_heals.Goals as goal
 pub returns : goal.returns
 returns g c =
     let met = g.met.C.Kind in
-    always_heals (members g.C.Kind.equal g.C.Kind.byte_of g.C.Kind.cell_of) met.reflexive met.exact
+    always_heals (members g.C.PartialEq.eq g.C.Kind.byte_of g.C.Kind.cell_of) met.reflexive met.exact

@@ -6,5 +6,5 @@ use Rattle.plate.proofs.laws.outcomes_pin.Goals as goal
 
 pub returns : goal.returns
 returns g c =
-    let k = members g.C.Kind.equal g.C.Kind.byte_of g.C.Kind.cell_of in
+    let k = members g.C.PartialEq.eq g.C.Kind.byte_of g.C.Kind.cell_of in
     record { ends = outcomes_pin k; answers = answers_pin k; faults = faults_pin }

@@ -6,7 +6,7 @@ use Rattle.plate.proofs.majority.candidate.Goals.{then-left-eq0, else-left-eq0+t
 
 pub loop-x-preserved : goal.loop-x-preserved
 loop-x-preserved g c =
-    let equal = g.C.Kind.equal in
+    let equal = g.C.PartialEq.eq in
     let exact = g.met.C.Kind.exact in
     let cell = c.loop-x.cell in
     let left = c.loop-x.left in
@@ -36,7 +36,7 @@ loop-x-preserved g c =
 
 pub returns : goal.returns
 returns g c =
-    let equal = g.C.Kind.equal in
+    let equal = g.C.PartialEq.eq in
     let exact = g.met.C.Kind.exact in
     left_over equal exact c.loop-x.cell c.loop-x.left c.args.plane.now
     (subst (λ cells. Paired equal c.loop-x.cell c.loop-x.left cells) (take_all c.loop-x.x-index c.args.plane.now (omega arith))

@@ -8,7 +8,7 @@ use Rattle.plate.proofs.majority.count_same.Goals.{then-same, else-same}
 pub loop-x-preserved : goal.loop-x-preserved
 loop-x-preserved g c =
     let plane = c.args.plane.now in
-    let like : g.row.C.Denot → Bool = λ y. g.C.Kind.equal y c.args.cell in
+    let like : g.row.C.Denot → Bool = λ y. g.C.PartialEq.eq y c.args.cell in
     let i = c.loop-x.x-index in
     let x = c.x-item.result in
     let read = ap like (sym c.x-item.is) ∙ sym c.same.ensures in
@@ -24,4 +24,4 @@ loop-x-preserved g c =
 pub returns : goal.returns
 returns g c =
     c.loop-x.invariant.0
-    ∙ ap (holders g.C.Kind.equal c.args.cell) (take_all c.loop-x.x-index c.args.plane.now (omega arith))
+    ∙ ap (holders g.C.PartialEq.eq c.args.cell) (take_all c.loop-x.x-index c.args.plane.now (omega arith))

@@ -5,14 +5,14 @@ use Rattle.plate.proofs.Majorities.{majority_some, majority_none}
 use Rattle.plate.proofs.majority.majority.Goals as goal
 
 pub returns-then-plane-eq0 : goal.returns-then-plane-eq0
-returns-then-plane-eq0 g c = sym (ap (majority_of g.C.Kind.equal) (nil_from_length c.args.plane.now (omega arith)))
+returns-then-plane-eq0 g c = sym (ap (majority_of g.C.PartialEq.eq) (nil_from_length c.args.plane.now (omega arith)))
 
 pub returns-then-count_same-plane : goal.returns-then-count_same-plane
 returns-then-count_same-plane g c =
-    sym (majority_some g.C.Kind.equal g.met.C.Kind.exact c.args.plane.now c.candidate-cell.result c.candidate-cell.ensures
+    sym (majority_some g.C.PartialEq.eq g.met.C.Kind.exact c.args.plane.now c.candidate-cell.result c.candidate-cell.ensures
     (omega arith))
 
 pub returns-else-count_same-plane : goal.returns-else-count_same-plane
 returns-else-count_same-plane g c =
-    sym (majority_none g.C.Kind.equal g.met.C.Kind.exact c.args.plane.now c.candidate-cell.result c.candidate-cell.ensures
+    sym (majority_none g.C.PartialEq.eq g.met.C.Kind.exact c.args.plane.now c.candidate-cell.result c.candidate-cell.ensures
     (omega arith))

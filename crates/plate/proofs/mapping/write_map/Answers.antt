@@ -15,7 +15,7 @@ add_hurt-requires g c =
     record {
       room = omega arith;
       low = λ k h.
-          counts_low g.C.Kind.equal c.args.planes c.args.side c.args.cells.now _ c.loop-i.out c.loop-i.i c.loop-i.invariant.1
+          counts_low g.C.PartialEq.eq c.args.planes c.args.side c.args.cells.now _ c.loop-i.out c.loop-i.i c.loop-i.invariant.1
           (omega arith) c.index-cells-lines.result k (omega arith);
     }
 
@@ -26,7 +26,7 @@ loop-i-preserved g c =
     plane_long c.args.cells.now c.plane_at.result.now c.loop-i.start c.loop-i.i c.args.planes c.args.side c.plane_at.ensures
     at c.loop-i-test.true c.requires.size in (
       next_start c.loop-i.start c.loop-i.i c.args.side at,
-      counted_more g.C.Kind.equal c.args.planes c.args.side c.args.cells.now _ c.loop-i.out c.loop-i.start c.loop-i.i
+      counted_more g.C.PartialEq.eq c.args.planes c.args.side c.args.cells.now _ c.loop-i.out c.loop-i.start c.loop-i.i
           c.plane_at.result.now c.index-cells-lines.result long at c.plane_at.ensures c.loop-i-test.true c.requires.size
           c.index-cells-lines.is c.loop-i.invariant.1 _ c.add_hurt.ensures.places c.add_hurt.ensures.rest,
     )
@@ -34,6 +34,6 @@ loop-i-preserved g c =
 pub returns : goal.returns
 returns g c =
     let last : c.loop-i.i ≡ c.args.planes = omega arith in
-    counted_all g.C.Kind.equal c.args.planes c.args.side c.args.cells.now c.args.out.now c.clear.new.counts c.loop-i.out
-    (subst (λ n. CountedBelow g.C.Kind.equal c.args.planes c.args.side c.args.cells.now c.clear.new.counts n c.loop-i.out) last
+    counted_all g.C.PartialEq.eq c.args.planes c.args.side c.args.cells.now c.args.out.now c.clear.new.counts c.loop-i.out
+    (subst (λ n. CountedBelow g.C.PartialEq.eq c.args.planes c.args.side c.args.cells.now c.clear.new.counts n c.loop-i.out) last
     c.loop-i.invariant.1) c.clear.ensures.rest (omega arith) c.requires.room

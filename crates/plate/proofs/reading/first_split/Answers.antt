@@ -15,14 +15,14 @@ overflow_add-start g c =
 
 pub returns-in_default : goal.returns-in_default
 returns-in_default g c =
-    let equal = g.C.Kind.equal in
+    let equal = g.C.PartialEq.eq in
     let cells = c.args.cells.now in
     asked_first (plane_question equal cells c.args.side) c.args.planes c.loop-i.i _ c.loop-i.invariant.1
     (split equal cells c.args.side c.loop-i.start c.loop-i.i c.loop-i.invariant.0 _ c.plane_at.ensures c.in_default.ensures) c.loop-i-test.true
 
 pub loop-i-preserved : goal.loop-i-preserved
 loop-i-preserved g c =
-    let equal = g.C.Kind.equal in
+    let equal = g.C.PartialEq.eq in
     let cells = c.args.cells.now in
     let at = c.loop-i.invariant.0 in (
       next_start c.loop-i.start c.loop-i.i c.args.side at,

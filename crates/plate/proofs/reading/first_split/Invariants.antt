@@ -5,4 +5,4 @@ use Rattle.plate.proofs.reading.first_split.Given as goal
 
 abbrev pub invariant-loop-i : goal.invariant-loop-i
 invariant-loop-i g l =
-    (l.start ≡ l.i * (l.side * l.side)) × (ask_each (plane_question g.C.Kind.equal l.cells l.side) l.i ≡ None)
+    (l.start ≡ l.i * (l.side * l.side)) × (ask_each (plane_question g.C.PartialEq.eq l.cells l.side) l.i ≡ None)

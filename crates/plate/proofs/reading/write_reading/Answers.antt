@@ -17,7 +17,7 @@ overflow_add-start g c =
 
 pub loop-i-preserved : goal.loop-i-preserved
 loop-i-preserved g c =
-    let equal = g.C.Kind.equal in
+    let equal = g.C.PartialEq.eq in
     let byte = g.C.Kind.byte_of in
     let cells = c.args.cells.now in
     let side = c.args.side in

@@ -4,4 +4,4 @@ use Rattle.plate.proofs.sweep.vote_plane.Given as goal
 
 abbrev pub invariant-loop-r : goal.invariant-loop-r
 invariant-loop-r g l =
-    Swept l.to (l.r * l.side) (PlaneVotes g.C.Kind.equal l.own l.side l.initial.cells) l.initial.cells l.cells
+    Swept l.to (l.r * l.side) (PlaneVotes g.C.PartialEq.eq l.own l.side l.initial.cells) l.initial.cells l.cells

@@ -14,7 +14,7 @@ vote_plane-requires g c =
 
 pub loop-i-preserved : goal.loop-i-preserved
 loop-i-preserved g c =
-    plane_more g.C.Kind.equal c.args.planes c.args.side c.args.cells.now c.loop-i.cells c.vote_plane.new.cells
+    plane_more g.C.PartialEq.eq c.args.planes c.args.side c.args.cells.now c.loop-i.cells c.vote_plane.new.cells
     c.loop-i.i (omega arith) c.loop-i.invariant c.vote_plane.ensures
 
 pub returns : goal.returns
@@ -23,4 +23,4 @@ returns g c =
     let area = c.args.side * c.args.side in
     let old = c.args.cells.now in
     let all : c.loop-i.i ≡ n = omega arith in
-    subst (λ i. Swept (n * area) (i * area) (PlanesVotes g.C.Kind.equal n c.args.side old) old c.loop-i.cells) all c.loop-i.invariant
+    subst (λ i. Swept (n * area) (i * area) (PlanesVotes g.C.PartialEq.eq n c.args.side old) old c.loop-i.cells) all c.loop-i.invariant

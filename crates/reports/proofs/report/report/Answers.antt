@@ -4,7 +4,7 @@ use Rattle.reports.proofs.report.report.Goals as goal
 
 pub returns : goal.returns
 returns g c =
-    let k = members g.C.Kind.equal g.C.Kind.byte_of g.C.Kind.cell_of in
+    let k = members g.C.PartialEq.eq g.C.Kind.byte_of g.C.Kind.cell_of in
     let met = g.met.C.Kind in record {
       outcome = c.try_report.ensures;
       heals = λ h reached. always_heals k met.reflexive met.exact h (board c.args.plate.now) reached;

@@ -8,7 +8,7 @@ use Rattle.reports.proofs.report.try_report.Goals as goal
 
 pub returns-in_err-map : goal.returns-in_err-map
 returns-in_err-map g c =
-    let k = members g.C.Kind.equal g.C.Kind.byte_of g.C.Kind.cell_of in
+    let k = members g.C.PartialEq.eq g.C.Kind.byte_of g.C.Kind.cell_of in
     let l = c.in_ok-laid.laid in
     let b = board c.args.plate.now in
     let stands : standing b ≡ Some l = sym c.standing.ensures ∙ c.in_ok-laid.ensures.ok_part in
@@ -16,7 +16,7 @@ returns-in_err-map g c =
 
 pub returns-in_err-split : goal.returns-in_err-split
 returns-in_err-split g c =
-    let k = members g.C.Kind.equal g.C.Kind.byte_of g.C.Kind.cell_of in
+    let k = members g.C.PartialEq.eq g.C.Kind.byte_of g.C.Kind.cell_of in
     let l = c.in_ok-laid.laid in
     let b = board c.args.plate.now in
     let stands : standing b ≡ Some l = sym c.standing.ensures ∙ c.in_ok-laid.ensures.ok_part in
@@ -24,7 +24,7 @@ returns-in_err-split g c =
 
 pub page-requires : goal.page-requires
 page-requires g c =
-    let k = members g.C.Kind.equal g.C.Kind.byte_of g.C.Kind.cell_of in
+    let k = members g.C.PartialEq.eq g.C.Kind.byte_of g.C.Kind.cell_of in
     let l = c.in_ok-laid.laid in
     let b = board c.args.plate.now in
     let stands : standing b ≡ Some l = sym c.standing.ensures ∙ c.in_ok-laid.ensures.ok_part in
@@ -37,7 +37,7 @@ page-requires g c =
 
 pub returns : goal.returns
 returns g c =
-    let k = members g.C.Kind.equal g.C.Kind.byte_of g.C.Kind.cell_of in
+    let k = members g.C.PartialEq.eq g.C.Kind.byte_of g.C.Kind.cell_of in
     let l = c.in_ok-laid.laid in
     let b = board c.args.plate.now in
     let stands : standing b ≡ Some l = sym c.standing.ensures ∙ c.in_ok-laid.ensures.ok_part in

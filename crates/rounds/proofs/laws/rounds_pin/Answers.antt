@@ -5,7 +5,7 @@ use Rattle.rounds.proofs.laws.rounds_pin.Goals as goal
 
 pub returns : goal.returns
 returns g c =
-    let k = members g.C.Kind.equal g.C.Kind.byte_of g.C.Kind.cell_of in
+    let k = members g.C.PartialEq.eq g.C.Kind.byte_of g.C.Kind.cell_of in
     let e = entrant g.H.Entry.number g.H.Entry.questions g.H.Entry.is_in g.H.Host.meaning in
     record {
       play = play_pins k e g.met.H.Entry.once;

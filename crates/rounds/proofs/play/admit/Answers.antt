@@ -8,7 +8,7 @@ use Rattle.rounds.proofs.play.admit.Goals as goal
 
 pub returns-in_err-check_lay : goal.returns-in_err-check_lay
 returns-in_err-check_lay g c =
-    let k = members g.C.Kind.equal g.C.Kind.byte_of g.C.Kind.cell_of in
+    let k = members g.C.PartialEq.eq g.C.Kind.byte_of g.C.Kind.cell_of in
     let e = entrant g.H.Entry.number g.H.Entry.questions g.H.Entry.is_in g.H.Host.meaning in
     let file = c.args.file.now in
     let read = c.in_ok-round.ensures in

@@ -9,7 +9,7 @@ use Rattle.rounds.proofs.play.perform.Goals as goal
 
 pub returns-in_err-len : goal.returns-in_err-len
 returns-in_err-len g c =
-    let k = members g.C.Kind.equal g.C.Kind.byte_of g.C.Kind.cell_of in
+    let k = members g.C.PartialEq.eq g.C.Kind.byte_of g.C.Kind.cell_of in
     let r = c.args.round in
     let calls = calls_of_run (g.H.Host.meaning c.args.host.now) r.script.now r.beats in
     let lay = Lay r.planes r.side r.tape.now in
@@ -22,7 +22,7 @@ returns-in_err-len g c =
 
 pub returns : goal.returns
 returns g c =
-    let k = members g.C.Kind.equal g.C.Kind.byte_of g.C.Kind.cell_of in
+    let k = members g.C.PartialEq.eq g.C.Kind.byte_of g.C.Kind.cell_of in
     let r = c.args.round in
     let fresh : board c.new-plate.result ≡ record { laid = None; cells = c.args.memory.now } =
     λ i. record { laid = new_bare k (board c.new-plate.result) c.new-plate.ensures.reached i; cells = c.new-plate.ensures.cells i } in

@@ -6,7 +6,7 @@ use Rattle.rounds.proofs.reply.reply.Goals as goal
 
 pub returns-in-Ok : goal.returns-in-Ok
 returns-in-Ok g c =
-    let k = members g.C.Kind.equal g.C.Kind.byte_of g.C.Kind.cell_of in
+    let k = members g.C.PartialEq.eq g.C.Kind.byte_of g.C.Kind.cell_of in
     let e = entrant g.H.Entry.number g.H.Entry.questions g.H.Entry.is_in g.H.Host.meaning in
     let plays = c.in-Ok.ensures.outcome in
     record {

@@ -9,7 +9,7 @@ loop-init g c = (refl, older_0 (board c.args.plate.now), refl)
 
 pub loop-preserved : goal.loop-preserved
 loop-preserved g c =
-    let k = members g.C.Kind.equal g.C.Kind.byte_of g.C.Kind.cell_of in
+    let k = members g.C.PartialEq.eq g.C.Kind.byte_of g.C.Kind.cell_of in
     let host = g.H.Host.meaning c.args.host.now in
     let start = board c.args.plate.now in
     let b = board c.loop.plate in
@@ -22,14 +22,14 @@ loop-preserved g c =
 
 pub returns-in_err-beat : goal.returns-in_err-beat
 returns-in_err-beat g c =
-    let k = members g.C.Kind.equal g.C.Kind.byte_of g.C.Kind.cell_of in
+    let k = members g.C.PartialEq.eq g.C.Kind.byte_of g.C.Kind.cell_of in
     absurd
     (never_refused k (g.H.Host.meaning c.args.host.now) (board c.args.plate.now) (board c.loop.plate) (board c.beat.new.self) c.loop.counter
     c.args.times c.requires c.loop.invariant.1 (omega arith) _ c.in_err-beat.ensures.outcome.0)
 
 pub returns : goal.returns
 returns g c =
-    let k = members g.C.Kind.equal g.C.Kind.byte_of g.C.Kind.cell_of in
+    let k = members g.C.PartialEq.eq g.C.Kind.byte_of g.C.Kind.cell_of in
     let host = g.H.Host.meaning c.args.host.now in
     let last : c.loop.counter ≡ c.args.times = omega arith in
     record {

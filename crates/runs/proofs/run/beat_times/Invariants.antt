@@ -5,5 +5,5 @@ use Rattle.runs.proofs.run.beat_times.Given as goal
 
 abbrev pub invariant-loop : goal.invariant-loop
 invariant-loop g l =
-    Leads (members g.C.Kind.equal g.C.Kind.byte_of g.C.Kind.cell_of) (beats_alone (g.H.Host.meaning l.host) l.counter) (board l.initial.plate) (board l.plate)
+    Leads (members g.C.PartialEq.eq g.C.Kind.byte_of g.C.Kind.cell_of) (beats_alone (g.H.Host.meaning l.host) l.counter) (board l.initial.plate) (board l.plate)
     × Older l.counter (board l.initial.plate) (board l.plate) × (l.plate.cells.ghost_name ≡ l.initial.plate.cells.ghost_name)

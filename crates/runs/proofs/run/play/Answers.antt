@@ -8,7 +8,7 @@ use Rattle.runs.proofs.run.play.Goals as goal
 
 pub overflow_sub-record : goal.overflow_sub-record
 overflow_sub-record g c =
-    let k = members g.C.Kind.equal g.C.Kind.byte_of g.C.Kind.cell_of in
+    let k = members g.C.PartialEq.eq g.C.Kind.byte_of g.C.Kind.cell_of in
     let e = c.loop-index.index-iterator in
     let stood = c.loop-index.invariant.0 in
     let y = c.in-Some.ensures.steps.0 in
@@ -17,13 +17,13 @@ overflow_sub-record g c =
 
 pub overflow_sub-beats : goal.overflow_sub-beats
 overflow_sub-beats g c =
-    let k = members g.C.Kind.equal g.C.Kind.byte_of g.C.Kind.cell_of in
+    let k = members g.C.PartialEq.eq g.C.Kind.byte_of g.C.Kind.cell_of in
     done_upto k (g.H.Host.meaning c.args.host.now) c.args.script.now c.args.beats (board c.args.plate.now) c.requires
     c.loop-index.index-iterator.count c.loop-index.done c.loop-index.invariant.0.within c.loop-index.invariant.1
 
 pub loop-index-init : goal.loop-index-init
 loop-index-init g c =
-    let k = members g.C.Kind.equal g.C.Kind.byte_of g.C.Kind.cell_of in
+    let k = members g.C.PartialEq.eq g.C.Kind.byte_of g.C.Kind.cell_of in
     let host = g.H.Host.meaning c.args.host.now in
     let script = c.args.script.now in
     let start = board c.args.plate.now in
@@ -33,7 +33,7 @@ loop-index-init g c =
 
 pub beat_times-requires : goal.beat_times-requires
 beat_times-requires g c =
-    let k = members g.C.Kind.equal g.C.Kind.byte_of g.C.Kind.cell_of in
+    let k = members g.C.PartialEq.eq g.C.Kind.byte_of g.C.Kind.cell_of in
     let host = g.H.Host.meaning c.args.host.now in
     let start = board c.args.plate.now in
     let e = c.loop-index.index-iterator in
@@ -47,7 +47,7 @@ beat_times-requires g c =
 
 pub loop-index-preserved : goal.loop-index-preserved
 loop-index-preserved g c =
-    let k = members g.C.Kind.equal g.C.Kind.byte_of g.C.Kind.cell_of in
+    let k = members g.C.PartialEq.eq g.C.Kind.byte_of g.C.Kind.cell_of in
     let host = g.H.Host.meaning c.args.host.now in
     let script = c.args.script.now in
     let start = board c.args.plate.now in
@@ -76,7 +76,7 @@ loop-index-preserved g c =
 
 pub returns-in_err-at : goal.returns-in_err-at
 returns-in_err-at g c =
-    let k = members g.C.Kind.equal g.C.Kind.byte_of g.C.Kind.cell_of in
+    let k = members g.C.PartialEq.eq g.C.Kind.byte_of g.C.Kind.cell_of in
     let host = g.H.Host.meaning c.args.host.now in
     let script = c.args.script.now in
     let start = board c.args.plate.now in
@@ -99,7 +99,7 @@ returns-in_err-at g c =
 
 pub beat_times-requires-2 : goal.beat_times-requires-2
 beat_times-requires-2 g c =
-    let k = members g.C.Kind.equal g.C.Kind.byte_of g.C.Kind.cell_of in
+    let k = members g.C.PartialEq.eq g.C.Kind.byte_of g.C.Kind.cell_of in
     let host = g.H.Host.meaning c.args.host.now in
     let start = board c.args.plate.now in
     young_enough k host c.args.script.now c.args.beats start c.requires c.loop-index.index-iterator.count c.loop-index.done c.args.beats (board c.loop-index.plate) c.loop-index.invariant.2
@@ -108,7 +108,7 @@ beat_times-requires-2 g c =
 
 pub returns : goal.returns
 returns g c =
-    let k = members g.C.Kind.equal g.C.Kind.byte_of g.C.Kind.cell_of in
+    let k = members g.C.PartialEq.eq g.C.Kind.byte_of g.C.Kind.cell_of in
     let host = g.H.Host.meaning c.args.host.now in
     let script = c.args.script.now in
     let start = board c.args.plate.now in

@@ -6,7 +6,7 @@ use Rattle.plate.proofs.plate.Plate.read.Goals as goal
 
 pub returns : goal.returns
 returns g c =
-    let k = members g.C.Kind.equal g.C.Kind.byte_of g.C.Kind.cell_of in
+    let k = members g.C.PartialEq.eq g.C.Kind.byte_of g.C.Kind.cell_of in
     let met = g.met.C.Kind in
     let o = c.try_read.ensures in
     record {

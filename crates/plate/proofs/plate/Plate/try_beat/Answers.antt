@@ -22,7 +22,7 @@ returns g c =
           age = refl;
           shadow = c.vote.ensures;
           cells =
-              subst (λ s. CellsBeaten g.C.Kind.equal (g.H.Host.meaning c.args.host.now) l.planes s b.cells c.beat_cells.new.cells)
+              subst (λ s. CellsBeaten g.C.PartialEq.eq (g.H.Host.meaning c.args.host.now) l.planes s b.cells c.beat_cells.new.cells)
               c.side-side.ensures c.beat_cells.ensures;
         },
       );

@@ -19,7 +19,7 @@ returns g c =
         record {
           stood = l;
           standing_before = stands;
-          out = λ d. c.write_map.ensures d ∙ ap (λ s. map (hurt_at g.C.Kind.equal l.planes s b.cells d) (range_with_len 0 (s * s)) ++ drop (s * s) out) side;
+          out = λ d. c.write_map.ensures d ∙ ap (λ s. map (hurt_at g.C.PartialEq.eq l.planes s b.cells d) (range_with_len 0 (s * s)) ++ drop (s * s) out) side;
         },
         refl,
       ),

@@ -14,16 +14,16 @@ returns g c =
     let out = c.args.out.now in
     let stands : standing b ≡ Some l = sym c.standing.ensures ∙ c.in_ok-laid.ensures.ok_part in
     let side = c.side-side.ensures in
-    let whole : ask_each (plane_question g.C.Kind.equal b.cells (side_of l)) l.planes ≡ None =
-    ap (λ s. ask_each (plane_question g.C.Kind.equal b.cells s) l.planes) (sym side) ∙ c.first_split.ensures
+    let whole : ask_each (plane_question g.C.PartialEq.eq b.cells (side_of l)) l.planes ≡ None =
+    ap (λ s. ask_each (plane_question g.C.PartialEq.eq b.cells s) l.planes) (sym side) ∙ c.first_split.ensures
     ∙ ap (option_map (read_refusal 16)) c.in_default.is in (
-      ap (λ o. read_questions_of g.C.Kind.equal o b.cells (length out)) stands
+      ap (λ o. read_questions_of g.C.PartialEq.eq o b.cells (length out)) stands
           ∙ cond-true _ _ _ (le-leb l.planes (length out) c.if-out-laid.false) ∙ whole,
       (
         record {
           stood = l;
           standing_before = stands;
-          out = c.write_reading.ensures ∙ ap (λ s. reading g.C.Kind.equal g.C.Kind.byte_of l.planes s b.cells ++ drop l.planes out) side;
+          out = c.write_reading.ensures ∙ ap (λ s. reading g.C.PartialEq.eq g.C.Kind.byte_of l.planes s b.cells ++ drop l.planes out) side;
         },
         refl,
       ),
