@@ -7,6 +7,7 @@ ghost use Rattle.thin.specs.Input.{Reads};
 ghost use Rattle.thin.specs.InputCalls.{WordCut, NumberRead, SideRead, PlaceMarked};
 ghost use Rattle.thin.specs.Words.{ends_line, lines, later_lines, is_blank};
 
+use crate::lines::{Lines, cut_line};
 use std::fmt;
 use toom::shadow::Shadow;
 
@@ -49,23 +50,6 @@ impl fmt::Display for InputFault {
         let line = self.line;
         let cause = self.cause;
         write!(f, "line {line}: {cause}")
-    }
-}
-
-// Where the first line ends, if a line end stands there.
-fn line_end(text: &[u8]) -> Option<usize>
-    ensures { result ≡ position ends_line text.now }
-{
-    text.iter().position(|byte| *byte == b'\n')
-}
-
-// The first line, and what follows its end if it has one.
-fn cut_line(text: &[u8]) -> (&[u8], Option<&[u8]>)
-    ensures { lines text.now ≡ result.0.now ∷ later_lines (option_map (λ x. x.now) result.1) }
-{
-    match line_end(text) {
-        Some(end) => (&text[..end], Some(&text[end + 1..])),
-        None => (text, None),
     }
 }
 
@@ -150,14 +134,11 @@ fn mark_place(shadow: &mut Shadow, line: &[u8]) -> Result<(), Cause>
 pub fn read_shadow(text: &[u8]) -> Result<Shadow, InputFault>
     ensures { Reads text.now result }
 {
-    let mut line = 1;
-    let (first, mut rest) = cut_line(text);
-    let mut shadow = read_side(first).map_err(|cause| InputFault { line, cause })?;
-    while let Some(more) = rest {
-        line += 1;
-        let (next, after) = cut_line(more);
-        mark_place(&mut shadow, next).map_err(|cause| InputFault { line, cause })?;
-        rest = after;
+    let (first, rest) = cut_line(text);
+    let mut shadow = read_side(first).map_err(|cause| InputFault { line: 1, cause })?;
+    for (index, place) in (Lines { rest }).enumerate() {
+        let line = index + 2;
+        mark_place(&mut shadow, place).map_err(|cause| InputFault { line, cause })?;
     }
     Ok(shadow)
 }

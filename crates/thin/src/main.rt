@@ -7,6 +7,7 @@ use std::io::Read;
 use std::process::ExitCode;
 
 mod input;
+mod lines;
 #[cfg(test)]
 mod tests;
 mod trace;
