@@ -1,8 +1,7 @@
 -- A machine is its numbers of states and symbols and its entries.
-use mathlib.Core.HLevel.{is_prop→PathP, ×₃_prop, Π_prop}
+use mathlib.Core.HLevel.{is_prop→PathP}
 use Rattle.std.proofs.Common.{◌≡◌, ℕ, ◌+◌, ◌*◌, ◌/◌, ◌%◌, List, length, get_or, sym, ap, ◌∙◌, arith}
-use native.Mathlib.Bridge.{le_prop}
-use native.Mathlib.Nat.{ℕ_set}
+use Rattle.std.proofs.Props.{props}
 use Rattle.std.proofs.lemmas.List.{ext_get_or}
 use Rattle.std.proofs.lemmas.Bool.{cond_both}
 use Rattle.hosts.specs.declared.entry.Entry.{Entry}
@@ -12,24 +11,20 @@ use Rattle.hosts.specs.Table.{Sizes, has_entry, blank, IsBlank, Used, Unused}
 use Rattle.hosts.proofs.Entries.{entries_equal}
 use Rattle.hosts.proofs.Motions.{motion_back}
 
-sizes_prop : (states symbols : ℕ) → IsProp (Sizes states symbols)
-sizes_prop states symbols u v =
-    λ i. (le_prop u.0 v.0 i, le_prop u.1 v.1 i, le_prop u.2 v.2 i, le_prop u.3 v.3 i)
-
 -- Machines of the same sizes and the same table are equal.
 machines_equal : (m n : Machine) → m.states ≡ n.states → m.symbols ≡ n.symbols → m.table ≡ n.table → m ≡ n
 machines_equal m n p q t = λ i. record {
   states = p i;
   symbols = q i;
   table = t i;
-  sized = is_prop→PathP (λ j. Sizes (p j) (q j)) (λ j. sizes_prop (p j) (q j)) m.sized n.sized i;
-  whole = is_prop→PathP (λ j. length (t j) ≡ 256) (λ j. ℕ_set _ _) m.whole n.whole i;
+  sized = is_prop→PathP (λ j. Sizes (p j) (q j)) (λ j. Prim.hlevel props) m.sized n.sized i;
+  whole = is_prop→PathP (λ j. length (t j) ≡ 256) (λ j. Prim.hlevel props) m.whole n.whole i;
   used =
-      is_prop→PathP (λ j. (s : ℕ) → Used (p j) (q j) (t j) s) (λ j. Π_prop (λ s. Π_prop (λ h. ×₃_prop le_prop le_prop le_prop)))
+      is_prop→PathP (λ j. (s : ℕ) → Used (p j) (q j) (t j) s) (λ j. Prim.hlevel props)
       m.used n.used i;
   unused =
       is_prop→PathP (λ j. (s : ℕ) → Unused (p j) (q j) (t j) s)
-      (λ j. Π_prop (λ s. Π_prop (λ h. ×₃_prop (ℕ_set _ _) (ℕ_set _ _) (ℕ_set _ _)))) m.unused n.unused i;
+      (λ j. Prim.hlevel props) m.unused n.unused i;
 }
 
 blank_is : (e : Entry) → IsBlank e → e ≡ blank

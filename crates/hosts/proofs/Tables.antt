@@ -1,15 +1,15 @@
 -- The table that a machine file in order fills: its entries are in range, its other slots blank.
-use Rattle.std.proofs.Common.{◌≡◌, ℕ, ◌+◌, ◌-◌, ◌*◌, ◌/◌, ◌%◌, ◌<◌, ◌≤◌, true, false, ◌&&◌, ltb, leb, List, length, get_or, None, sym, refl, ◌∙◌, subst, subst₂, inl, inr, arith}
+use Rattle.std.proofs.Common.{◌≡◌, ℕ, ◌+◌, ◌-◌, ◌*◌, ◌/◌, ◌%◌, ◌<◌, ◌≤◌, true, false, List, length, get_or, None, sym, refl, ◌∙◌, subst, subst₂, inl, inr, arith}
 use Rattle.std.proofs.lemmas.Nat.{mul-add-lt}
 use Rattle.std.proofs.lemmas.List.{get_or_past}
-use Rattle.std.proofs.lemmas.Bool.{cases_lt, cond-true, cond-false, and_parts, leb-true, ltb-true}
+use Rattle.std.proofs.lemmas.Bool.{cases_lt, cond-true, cond-false}
 use Rattle.std.proofs.lemmas.Bool.Decides.{nat_tests}
 use Rattle.hosts.specs.declared.entry.Entry.{Entry}
-use Rattle.hosts.specs.MachineFile.{states_in, symbols_in, high_byte, entry_in, slot_in, entry_questions, header_refusal, machine_refusal, host_refusal, Bytes}
+use Rattle.hosts.specs.MachineFile.{states_in, symbols_in, high_byte, entry_in, slot_in, entry_questions, header_refusal, machine_refusal, Bytes}
 use Rattle.hosts.specs.Refusal.{ask_each}
 use Rattle.hosts.specs.Table.{Sizes, has_entry, blank, InRange, IsBlank, Used, Unused}
 use Rattle.hosts.proofs.Headers.{some_state, two_symbols}
-use Rattle.hosts.proofs.Questions.{ask_none, or_none, asked_each}
+use Rattle.hosts.proofs.Questions.{or_none, asked_each}
 
 -- A machine that has an entry for a state and a symbol has these.
 pub has_parts : (states symbols q s : ℕ) → has_entry states symbols q s ≡ true → (1 ≤ q) × (q ≤ states) × (s < symbols)
@@ -32,6 +32,11 @@ pub record Filled (file : List ℕ) (table : List Entry) (states symbols : ℕ) 
   pub entries : (q s : ℕ) → has_entry states symbols q s ≡ true
       → get_or table (16 * q + s) blank ≡ entry_in file ((q - 1) * symbols + s)
 
+-- An entry whose questions are answered is in range.
+entry_in_range : (file : List ℕ) (k : ℕ) → high_byte file k < 256 → entry_questions file k ≡ None
+    → InRange (states_in file) (symbols_in file) (entry_in file k)
+entry_in_range file k small good = (grind (arith, nat_tests), grind (arith, nat_tests), grind (arith, nat_tests))
+
 -- No machine has state 16.
 none_past : (states symbols i : ℕ) → states ≤ 15 → 256 ≤ i → has_entry states symbols (i / 16) (i % 16) ≡ false
 none_past states symbols i few past = grind (arith, nat_tests)
@@ -53,12 +58,7 @@ module _ (file : List ℕ) (bytes : Bytes file) (good : machine_refusal file ≡
   sizes = (some_state file header_good, omega (arith, bytes 0), two_symbols file header_good, omega arith)
 
   in_range : (k : ℕ) → k < Q * S → InRange Q S (entry_in file k)
-  in_range k h =
-      let next = ask_none (leb 1 (high_byte file k / 16) && leb (high_byte file k / 16) Q) (host_refusal 19 k) _ (entry_good k h) in
-      let symbol = ask_none (ltb (high_byte file k % 16) S) (host_refusal 20 k) _ next.1 in
-      let state = and_parts (leb 1 (high_byte file k / 16)) _ next.0 in
-      let small = bytes (1 + 2 * k) in
-      (omega (arith, leb-true _ _ state.0), omega (arith, leb-true _ _ state.1), ltb-true _ _ symbol.0)
+  in_range k h = entry_in_range file k (bytes (1 + 2 * k)) (entry_good k h)
 
   module _ (table : List Entry) (whole : length table ≡ 256) (slots : (i : ℕ) → i < 256 → get_or table i blank ≡ slot_in file i) where
     -- Past the table both sides are blank.
