@@ -1,15 +1,7 @@
 -- What a machine file's header says, if it is in order.
-<<<<<<< HEAD
-use Rattle.std.proofs.Common.{◌≡◌, ℕ, ◌+◌, ◌*◌, ◌≤◌, true, ◌&&◌, eqb, ltb, leb, List, length, None}
-use Rattle.std.proofs.lemmas.Bool.{and_parts, eqb-true, leb-true}
-use Rattle.hosts.specs.MachineFile.{states_in, symbols_in, header_refusal, host_refusal}
-use Rattle.hosts.specs.Refusal.{ask}
-use Rattle.hosts.proofs.Questions.{ask_none}
-=======
 use Rattle.std.proofs.Common.{◌≡◌, ℕ, ◌+◌, ◌*◌, ◌≤◌, List, length, None, arith}
 use Rattle.std.proofs.lemmas.Bool.Decides.{nat_tests}
 use Rattle.hosts.specs.MachineFile.{states_in, symbols_in, header_refusal}
->>>>>>> 30991e3955c6e22a2c05db66e96525687bb30a69
 
 module _ (file : List ℕ) (good : header_refusal file ≡ None) where
   pub some_state : 1 ≤ states_in file
