@@ -27,10 +27,11 @@ motion_code Stay = 0
 motion_code Left = 1
 motion_code Right = 2
 
--- Slot i is of state i / 16 and symbol i % 16. If the machine has these it holds an entry in range, else it is empty.
+-- What slot i of the table holds.
 abbrev pub slot : List (Option Entry) → ℕ → Option Entry
 slot table i = slice_index_or table i None
 
+-- Slot i is of state i / 16 and symbol i % 16. If the machine has these it holds an entry in range, else it is empty.
 abbrev pub Used : (states symbols : ℕ) → List (Option Entry) → ℕ → Type 0
 Used states symbols table i =
     has_entry states symbols (i / 16) (i % 16) ≡ true → (IsSome (slot table i)) × InRange states symbols (unwrap_or (slot table i) blank)
