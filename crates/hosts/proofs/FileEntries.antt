@@ -34,7 +34,7 @@ module _ (m : Machine) (k : ℕ) (k< : k < m.states * m.symbols) where
   pub nth_range : InRange m.states m.symbols (nth_entry m k)
   nth_range =
       let column : s < 16 = omega (arith, column_below, m.sized) in
-      m.used (16 * q + s) (subst₂ (λ a b. has_entry m.states m.symbols a b ≡ true) (omega arith) (omega arith) has_nth)
+      (m.used (16 * q + s) (subst₂ (λ a b. has_entry m.states m.symbols a b ≡ true) (omega arith) (omega arith) has_nth)).1
 
 -- Of a state and a symbol: their place is there, and the entry at that place is theirs.
 module _ (m : Machine) (q s : ℕ) (has : has_entry m.states m.symbols q s ≡ true) where

@@ -1,5 +1,5 @@
 -- The table while the entries of a machine file are asked and put in their slots, one after the other.
-use Rattle.std.proofs.Common.{◌≡◌, ℕ, zero, suc, ◌+◌, ◌-◌, ◌*◌, ◌/◌, ◌%◌, ◌<◌, ◌≤◌, true, List, length, get_or, set, replicate, Some, None, refl, sym, ap, ◌∙◌, subst, inl, inr, arith}
+use Rattle.std.proofs.Common.{◌≡◌, ℕ, zero, suc, ◌+◌, ◌-◌, ◌*◌, ◌/◌, ◌%◌, ◌<◌, ◌≤◌, true, List, length, get_or, set, replicate, Some, None, Option, refl, sym, ap, ◌∙◌, subst, inl, inr, arith}
 use Rattle.std.proofs.Math.Nat.{suc-mul}
 use Rattle.std.proofs.lemmas.Nat.{mul-add-lt}
 use Rattle.std.proofs.lemmas.List.{get_or_past, get_or-replicate, get_or-set_other, length-set}
@@ -11,7 +11,7 @@ use Rattle.hosts.specs.declared.entry.Entry.{Entry}
 use Rattle.hosts.specs.declared.machine.file.MachineFile.{MachineFile}
 use Rattle.hosts.specs.MachineFile.{states_in, symbols_in, entry_in, slot_in, entry_questions, machine_refusal, Bytes}
 use Rattle.hosts.specs.Refusal.{Refusal, ask_each}
-use Rattle.hosts.specs.Table.{has_entry, blank}
+use Rattle.hosts.specs.Table.{has_entry}
 use Rattle.hosts.proofs.Questions.{none_is, asked_more, asked_first}
 use Rattle.hosts.proofs.Tables.{has_parts, slot_of, Filled, filled}
 
@@ -28,66 +28,66 @@ module _ (file : MachineFile) where
   abbrev place : (q s : ℕ) → ℕ
   place q s = (q - 1) * file.symbols + s
 
-  -- All entries before that of state q and symbol s are in order and in their slots; every later slot is blank.
-  pub record FilledTo (table : List Entry) (q s : ℕ) : Type 0 where
+  -- All entries before that of state q and symbol s are in order and in their slots; every later slot is empty.
+  pub record FilledTo (table : List (Option Entry)) (q s : ℕ) : Type 0 where
     pub whole : length table ≡ 256
     pub asked : ask_each (entry_questions file.bytes.now) ((q - 1) * file.symbols + s) ≡ None
-    pub before : (i : ℕ) → i < 16 * q + s → get_or table i blank ≡ slot_in file.bytes.now i
-    pub after : (i : ℕ) → 16 * q + s ≤ i → get_or table i blank ≡ blank
+    pub before : (i : ℕ) → i < 16 * q + s → get_or table i None ≡ slot_in file.bytes.now i
+    pub after : (i : ℕ) → 16 * q + s ≤ i → get_or table i None ≡ None
 
   -- A slot that no state and symbol have.
-  spare : (i : ℕ) → ((1 ≤ i / 16) × (i / 16 ≤ file.states) × (i % 16 < file.symbols) → ⊥) → slot_in bytes i ≡ blank
+  spare : (i : ℕ) → ((1 ≤ i / 16) × (i / 16 ≤ file.states) × (i % 16 < file.symbols) → ⊥) → slot_in bytes i ≡ None
   spare i none =
       elim (cases_Bool (has_entry (states_in bytes) (symbols_in bytes) (i / 16) (i % 16))) [
         | inl has ↦
             let parts = has_parts (states_in bytes) (symbols_in bytes) (i / 16) (i % 16) has in
             absurd (none (parts.0, omega (arith, file.states_read), omega (arith, file.symbols_read)))
-        | inr h ↦ cond-false _ _ blank h
+        | inr h ↦ cond-false _ _ None h
       ]
 
   -- The slot of a state and a symbol.
-  taken : (q s : ℕ) → 1 ≤ q → q ≤ file.states → s < file.symbols → slot_in bytes (16 * q + s) ≡ entry_in bytes (place q s)
+  taken : (q s : ℕ) → 1 ≤ q → q ≤ file.states → s < file.symbols → slot_in bytes (16 * q + s) ≡ Some (entry_in bytes (place q s))
   taken q s some state symbol =
       let has : has_entry file.states file.symbols q s ≡ true = grind (arith, nat_tests) in
-      subst (λ n. slot_in bytes (16 * q + s) ≡ entry_in bytes ((q - 1) * n + s)) (sym file.symbols_read)
+      subst (λ n. slot_in bytes (16 * q + s) ≡ Some (entry_in bytes ((q - 1) * n + s))) (sym file.symbols_read)
       (slot_of bytes q s (rw (← file.states_read, ← file.symbols_read) has))
 
-  all_blank : (e : Entry) → e ≡ blank → (i : ℕ) → get_or (replicate 256 e) i blank ≡ blank
-  all_blank e is i =
+  all_empty : (i : ℕ) → get_or (replicate {A = Option Entry} 256 None) i None ≡ None
+  all_empty i =
       elim (cases_lt i 256) [
-        | inl h ↦ get_or-replicate 256 i e blank h ∙ is
-        | inr h ↦ get_or_past (replicate 256 e) i blank h
+        | inl h ↦ get_or-replicate 256 i None None h
+        | inr h ↦ get_or_past (replicate 256 None) i None h
       ]
 
-  pub filled_none : (e : Entry) → e ≡ blank → FilledTo (replicate 256 e) 1 0
-  filled_none e is =
+  pub filled_none : FilledTo (replicate 256 None) 1 0
+  filled_none =
       let none : place 1 0 ≡ 0 = omega arith in
       record {
         whole = refl;
         asked = ap (ask_each (entry_questions bytes)) none;
-        before = λ i h. all_blank e is i ∙ sym (spare i (λ has. absurd (omega arith)));
-        after = λ i h. all_blank e is i;
+        before = λ i h. all_empty i ∙ sym (spare i (λ has. absurd (omega arith)));
+        after = λ i h. all_empty i;
       }
 
-  module _ (table : List Entry) (q s : ℕ) (filled : FilledTo table q s) (some : 1 ≤ q) (state : q ≤ file.states) where
+  module _ (table : List (Option Entry)) (q s : ℕ) (filled : FilledTo table q s) (some : 1 ≤ q) (state : q ≤ file.states) where
     pub filled_more : (e : Entry) → s < file.symbols → entry_questions bytes (place q s) ≡ None → e ≡ entry_in bytes (place q s)
-        → FilledTo (set table (16 * q + s) e) q (s + 1)
+        → FilledTo (set table (16 * q + s) (Some e)) q (s + 1)
     filled_more e symbol good is =
         let slot = 16 * q + s in
         let whole = filled.whole in
         let sized = file.sized in
         let more : place q (s + 1) ≡ place q s + 1 = omega arith in
         record {
-          whole = length-set table slot e ∙ whole;
+          whole = length-set table slot (Some e) ∙ whole;
           asked = ap (ask_each (entry_questions bytes)) more ∙ asked_more (entry_questions bytes) (place q s) filled.asked good;
           before = λ i h.
               elim (cases_eq i slot) [
                 | inl here ↦
-                    get_or-set_at table slot i e blank here (omega arith) ∙ is ∙ sym (taken q s some state symbol)
+                    get_or-set_at table slot i (Some e) None here (omega arith) ∙ ap (λ x. Some x) is ∙ sym (taken q s some state symbol)
                     ∙ ap (slot_in bytes) (sym here)
-                | inr away ↦ get_or-set_other table slot i e blank away ∙ filled.before i (omega arith)
+                | inr away ↦ get_or-set_other table slot i (Some e) None away ∙ filled.before i (omega arith)
               ];
-          after = λ i h. get_or-set_other table slot i e blank (omega arith) ∙ filled.after i (omega arith);
+          after = λ i h. get_or-set_other table slot i (Some e) None (omega arith) ∙ filled.after i (omega arith);
         }
 
     -- The first entry that is out of order gives the refusal of the file.
@@ -102,7 +102,7 @@ module _ (file : MachineFile) where
 
     -- A slot that is filled, or that no state and symbol have.
     rest : (i : ℕ) → (16 * q + s ≤ i → (1 ≤ i / 16) × (i / 16 ≤ file.states) × (i % 16 < file.symbols) → ⊥)
-        → get_or table i blank ≡ slot_in bytes i
+        → get_or table i None ≡ slot_in bytes i
     rest i none =
         elim (cases_lt i (16 * q + s)) [
           | inl less ↦ filled.before i less
@@ -125,7 +125,7 @@ module _ (file : MachineFile) where
 
       -- After the last state the file is in order, and every slot is as it says.
       pub filled_all : q ≡ file.states
-          → (machine_refusal bytes ≡ None) × (length table ≡ 256) × ((i : ℕ) → i < 256 → get_or table i blank ≡ slot_in bytes i)
+          → (machine_refusal bytes ≡ None) × (length table ≡ 256) × ((i : ℕ) → i < 256 → get_or table i None ≡ slot_in bytes i)
       filled_all all =
           let every : states_in bytes * symbols_in bytes ≡ place q s =
           rw (← file.states_read, ← file.symbols_read, ← all, last) (sym (row_end q file.symbols some)) in (
@@ -136,14 +136,14 @@ module _ (file : MachineFile) where
           )
 
 -- What is known of the file's bytes once the table is filled.
-pub record ReadFrom (file : List ℕ) (table : List Entry) (states symbols : ℕ) : Type 0 where
+pub record ReadFrom (file : List ℕ) (table : List (Option Entry)) (states symbols : ℕ) : Type 0 where
   pub good : machine_refusal file ≡ None
   pub states_read : states ≡ states_in file
   pub symbols_read : symbols ≡ symbols_in file
   pub filled : Filled file table states symbols
 
-pub read_from : (b : List ℕ) (file : MachineFile) (table : List Entry) → Bytes b → file.bytes.now ≡ b
-    → (machine_refusal file.bytes.now ≡ None) × (length table ≡ 256) × ((i : ℕ) → i < 256 → get_or table i blank ≡ slot_in file.bytes.now i)
+pub read_from : (b : List ℕ) (file : MachineFile) (table : List (Option Entry)) → Bytes b → file.bytes.now ≡ b
+    → (machine_refusal file.bytes.now ≡ None) × (length table ≡ 256) × ((i : ℕ) → i < 256 → get_or table i None ≡ slot_in file.bytes.now i)
     → ReadFrom b table file.states file.symbols
 read_from b file table fit is read =
     subst (λ a. Bytes a → ReadFrom a table file.states file.symbols) is (λ fit. record {

@@ -1,15 +1,14 @@
 -- A machine is its numbers of states and symbols and its entries.
 use mathlib.Core.HLevel.{is_prop→PathP}
-use Rattle.std.proofs.Common.{◌≡◌, ℕ, ◌+◌, ◌*◌, ◌/◌, ◌%◌, List, length, get_or, sym, ap, ◌∙◌, arith}
+use Rattle.std.proofs.Common.{◌≡◌, ℕ, ◌+◌, ◌*◌, ◌/◌, ◌%◌, List, length, None, sym, ap, ◌∙◌, arith}
 use Rattle.std.proofs.Props.{props}
 use Rattle.std.proofs.lemmas.List.{ext_get_or}
 use Rattle.std.proofs.lemmas.Bool.{cond_both}
-use Rattle.hosts.specs.declared.entry.Entry.{Entry}
+use Rattle.std.specs.Option.{unwrap_or}
 use Rattle.hosts.specs.declared.machine.Machine.{Machine}
-use Rattle.hosts.specs.MachineFile.{motion_from, slot_in, MachineIn, OneMachineEach}
-use Rattle.hosts.specs.Table.{Sizes, has_entry, blank, IsBlank, Used, Unused}
-use Rattle.hosts.proofs.Entries.{entries_equal}
-use Rattle.hosts.proofs.Motions.{motion_back}
+use Rattle.hosts.specs.MachineFile.{slot_in, MachineIn, OneMachineEach}
+use Rattle.hosts.specs.Table.{Sizes, has_entry, blank, slot, Used, Unused}
+use Rattle.hosts.proofs.Questions.{none_is, some_is}
 
 -- Machines of the same sizes and the same table are equal.
 machines_equal : (m n : Machine) → m.states ≡ n.states → m.symbols ≡ n.symbols → m.table ≡ n.table → m ≡ n
@@ -27,19 +26,17 @@ machines_equal m n p q t = λ i. record {
       (λ j. Prim.hlevel props) m.unused n.unused i;
 }
 
-blank_is : (e : Entry) → IsBlank e → e ≡ blank
-blank_is e h = entries_equal e blank h.0 h.1 (motion_back e.motion ∙ ap motion_from h.2)
-
 module _ (file : List ℕ) (m : Machine) (is : MachineIn file m) where
   -- The file says what each slot holds.
-  slot_is : (i : ℕ) → get_or m.table i blank ≡ slot_in file i
+  slot_is : (i : ℕ) → slot m.table i ≡ slot_in file i
   slot_is i =
       let place : i ≡ 16 * (i / 16) + i % 16 = omega arith in
       rw (← is.states, ← is.symbols)
-      (cond_both (has_entry m.states m.symbols (i / 16) (i % 16)) _ blank (λ e. get_or m.table i blank ≡ e)
-      (λ h. ap (λ k. get_or m.table k blank) place ∙ is.entries (i / 16) (i % 16) h) (λ h. blank_is _ (m.unused i h)))
+      (cond_both (has_entry m.states m.symbols (i / 16) (i % 16)) _ None (λ o. slot m.table i ≡ o)
+      (λ h. some_is _ blank _ (m.used i h).0 (ap (λ k. unwrap_or (slot m.table k) blank) place ∙ is.entries (i / 16) (i % 16) h))
+      (λ h. none_is _ (m.unused i h)))
 
 pub one_machine_each : OneMachineEach
 one_machine_each file m n is too =
     machines_equal m n (is.states ∙ sym too.states) (is.symbols ∙ sym too.symbols)
-    (ext_get_or blank m.table n.table (m.whole ∙ sym n.whole) (λ i _. slot_is file m is i ∙ sym (slot_is file n too i)))
+    (ext_get_or None m.table n.table (m.whole ∙ sym n.whole) (λ i _. slot_is file m is i ∙ sym (slot_is file n too i)))

@@ -1,7 +1,7 @@
 -- Questions asked of one item after the other.
-use Rattle.std.proofs.Common.{◌≡◌, ℕ, zero, suc, ◌+◌, ◌<◌, Bool, true, false, IsNone, Some, None, Option, refl, ap, ◌∙◌, subst, inl, inr, add-one, arith}
+use Rattle.std.proofs.Common.{◌≡◌, ℕ, zero, suc, ◌+◌, ◌<◌, Bool, true, false, IsSome, IsNone, Some, None, Option, refl, ap, ◌∙◌, subst, inl, inr, add-one, arith}
 use Rattle.std.proofs.lemmas.Bool.{cases_lt}
-use Rattle.std.specs.Option.{option_or}
+use Rattle.std.specs.Option.{option_or, unwrap_or}
 use Rattle.hosts.specs.Refusal.{Refusal, ask, ask_each}
 
 -- No refusal: the answer was yes, and so were the later ones.
@@ -16,6 +16,10 @@ or_none (Some x) p h = let z : ◌≡◌ {A = ℕ} 0 1 = cc in absurd (omega ari
 pub none_is : {X : Type 0} (o : Option X) → IsNone o → o ≡ None
 none_is None none = refl
 none_is (Some x) none = cc
+
+pub some_is : {X : Type 0} (o : Option X) (d x : X) → IsSome o → unwrap_or o d ≡ x → o ≡ Some x
+some_is None d x some is = cc
+some_is (Some y) d x some is = ap (λ z. Some z) is
 
 module _ (q : ℕ → Option Refusal) where
   -- one item more

@@ -1,13 +1,14 @@
--- The table that a machine file in order fills: its entries are in range, its other slots blank.
-use Rattle.std.proofs.Common.{◌≡◌, ℕ, ◌+◌, ◌-◌, ◌*◌, ◌/◌, ◌%◌, ◌<◌, ◌≤◌, true, false, List, length, get_or, None, sym, refl, ◌∙◌, subst, subst₂, inl, inr, arith}
+-- The table that a machine file in order fills: its entries are in range, its other slots empty.
+use Rattle.std.proofs.Common.{◌≡◌, ℕ, ◌+◌, ◌-◌, ◌*◌, ◌/◌, ◌%◌, ◌<◌, ◌≤◌, true, false, List, length, get_or, is_some, IsSome, Some, None, Option, sym, ap, refl, ◌∙◌, subst, subst₂, inl, inr, arith}
 use Rattle.std.proofs.lemmas.Nat.{mul-add-lt}
 use Rattle.std.proofs.lemmas.List.{get_or_past}
 use Rattle.std.proofs.lemmas.Bool.{cases_lt, cond-true, cond-false}
 use Rattle.std.proofs.lemmas.Bool.Decides.{nat_tests}
+use Rattle.std.specs.Option.{unwrap_or}
 use Rattle.hosts.specs.declared.entry.Entry.{Entry}
 use Rattle.hosts.specs.MachineFile.{states_in, symbols_in, high_byte, entry_in, slot_in, entry_questions, header_refusal, machine_refusal, Bytes}
 use Rattle.hosts.specs.Refusal.{ask_each}
-use Rattle.hosts.specs.Table.{Sizes, has_entry, blank, InRange, IsBlank, Used, Unused}
+use Rattle.hosts.specs.Table.{Sizes, has_entry, blank, InRange, slot, Used, Unused}
 use Rattle.hosts.proofs.Headers.{some_state, two_symbols}
 use Rattle.hosts.proofs.Questions.{or_none, asked_each}
 
@@ -17,20 +18,20 @@ has_parts states symbols q s h = grind (arith, nat_tests)
 
 -- The slot of a state and a symbol that the machine of the file has.
 pub slot_of : (file : List ℕ) (q s : ℕ) → has_entry (states_in file) (symbols_in file) q s ≡ true
-    → slot_in file (16 * q + s) ≡ entry_in file ((q - 1) * symbols_in file + s)
+    → slot_in file (16 * q + s) ≡ Some (entry_in file ((q - 1) * symbols_in file + s))
 slot_of file q s h =
     let parts = has_parts (states_in file) (symbols_in file) q s h in
     let row : (16 * q + s) / 16 ≡ q = omega arith in
     let column : (16 * q + s) % 16 ≡ s = omega arith in
-    rw (row, column) (cond-true _ _ blank h)
+    rw (row, column) (cond-true _ _ None h)
 
 -- The table is that of the file, for these numbers of states and symbols.
-pub record Filled (file : List ℕ) (table : List Entry) (states symbols : ℕ) : Type 0 where
+pub record Filled (file : List ℕ) (table : List (Option Entry)) (states symbols : ℕ) : Type 0 where
   pub sized : Sizes states symbols
   pub used : (i : ℕ) → Used states symbols table i
   pub unused : (i : ℕ) → Unused states symbols table i
   pub entries : (q s : ℕ) → has_entry states symbols q s ≡ true
-      → get_or table (16 * q + s) blank ≡ entry_in file ((q - 1) * symbols + s)
+      → unwrap_or (slot table (16 * q + s)) blank ≡ entry_in file ((q - 1) * symbols + s)
 
 -- An entry whose questions are answered is in range.
 entry_in_range : (file : List ℕ) (k : ℕ) → high_byte file k < 256 → entry_questions file k ≡ None
@@ -60,15 +61,15 @@ module _ (file : List ℕ) (bytes : Bytes file) (good : machine_refusal file ≡
   in_range : (k : ℕ) → k < Q * S → InRange Q S (entry_in file k)
   in_range k h = entry_in_range file k (bytes (1 + 2 * k)) (entry_good k h)
 
-  module _ (table : List Entry) (whole : length table ≡ 256) (slots : (i : ℕ) → i < 256 → get_or table i blank ≡ slot_in file i) where
-    -- Past the table both sides are blank.
-    every_slot : (i : ℕ) → get_or table i blank ≡ slot_in file i
+  module _ (table : List (Option Entry)) (whole : length table ≡ 256) (slots : (i : ℕ) → i < 256 → get_or table i None ≡ slot_in file i) where
+    -- Past the table both sides are empty.
+    every_slot : (i : ℕ) → get_or table i None ≡ slot_in file i
     every_slot i =
         elim (cases_lt i 256) [
           | inl h ↦ slots i h
           | inr h ↦
-              get_or_past table i blank (omega arith)
-              ∙ sym (cond-false _ (entry_in file ((i / 16 - 1) * S + i % 16)) blank (none_past Q S i sizes.1 h))
+              get_or_past table i None (omega arith)
+              ∙ sym (cond-false _ (Some (entry_in file ((i / 16 - 1) * S + i % 16))) None (none_past Q S i sizes.1 h))
         ]
 
     used : (i : ℕ) → Used Q S table i
@@ -76,13 +77,14 @@ module _ (file : List ℕ) (bytes : Bytes file) (good : machine_refusal file ≡
         let parts = has_parts Q S (i / 16) (i % 16) h in
         let k = (i / 16 - 1) * S + i % 16 in
         let within : k < Q * S = omega (arith, mul-add-lt (i / 16 - 1) S (i % 16) Q (omega arith) parts.2) in
-        subst (λ e. InRange Q S e) (sym (every_slot i ∙ cond-true _ (entry_in file k) blank h)) (in_range k within)
+        subst (λ o. (IsSome o) × InRange Q S (unwrap_or o blank)) (sym (every_slot i ∙ cond-true _ (Some (entry_in file k)) None h))
+        (refl, in_range k within)
 
     unused : (i : ℕ) → Unused Q S table i
-    unused i h = subst IsBlank (sym (every_slot i ∙ cond-false _ _ blank h)) (refl, refl, refl)
+    unused i h = ap is_some (every_slot i ∙ cond-false _ _ None h)
 
-    entries : (q s : ℕ) → has_entry Q S q s ≡ true → get_or table (16 * q + s) blank ≡ entry_in file ((q - 1) * S + s)
-    entries q s h = every_slot (16 * q + s) ∙ slot_of file q s h
+    entries : (q s : ℕ) → has_entry Q S q s ≡ true → unwrap_or (slot table (16 * q + s)) blank ≡ entry_in file ((q - 1) * S + s)
+    entries q s h = ap (λ o. unwrap_or o blank) (every_slot (16 * q + s) ∙ slot_of file q s h)
 
     pub filled : (states symbols : ℕ) → states ≡ Q → symbols ≡ S → Filled file table states symbols
     filled states symbols p q =

@@ -1,6 +1,6 @@
 -- The machine file: Q in the first four bits, S - 1 in the next four; then two bytes an entry, of next state 4, symbol 4, move 2 and zeros 6 bits,
 -- state 1 first, symbols rising within a state.
-use Rattle.std.specs.Prelude.{◌≡◌, ℕ, zero, suc, ◌+◌, ◌-◌, ◌*◌, ◌/◌, ◌%◌, ◌<◌, true, cond, ◌&&◌, List, map, length, None, codes, Option, ◌==◌, nat_le, nat_lt, slice_index}
+use Rattle.std.specs.Prelude.{◌≡◌, ℕ, zero, suc, ◌+◌, ◌-◌, ◌*◌, ◌/◌, ◌%◌, ◌<◌, true, cond, ◌&&◌, List, map, length, Some, None, codes, Option, ◌==◌, nat_le, nat_lt, slice_index}
 use Rattle.std.proofs.Common.{lit<}
 use Rattle.std.proofs.Math.Nat.{mod-lt}
 use Rattle.std.specs.List.{range_with_len}
@@ -11,7 +11,7 @@ use Rattle.hosts.specs.declared.entry.Motion.TheVariants.{Stay, Left, Right}
 use Rattle.hosts.specs.declared.machine.Machine.{Machine}
 use Rattle.hosts.specs.MachineRule.{entry_at}
 use Rattle.hosts.specs.Refusal.{Refusal, ask, ask_each}
-use Rattle.hosts.specs.Table.{has_entry, blank, motion_code}
+use Rattle.hosts.specs.Table.{has_entry, motion_code}
 
 -- The numbers of states and symbols that the first byte gives.
 abbrev pub states_in : List ℕ → ℕ
@@ -67,9 +67,9 @@ pub record MachineIn (file : List ℕ) (m : Machine) : Type 0 where
   pub entries : (q s : ℕ) → has_entry m.states m.symbols q s ≡ true → entry_at m q s ≡ entry_in file ((q - 1) * m.symbols + s)
 
 -- What slot i of the table holds then.
-abbrev pub slot_in : List ℕ → ℕ → Entry
+abbrev pub slot_in : List ℕ → ℕ → Option Entry
 slot_in file i =
-    cond (has_entry (states_in file) (symbols_in file) (i / 16) (i % 16)) (entry_in file ((i / 16 - 1) * symbols_in file + i % 16)) blank
+    cond (has_entry (states_in file) (symbols_in file) (i / 16) (i % 16)) (Some (entry_in file ((i / 16 - 1) * symbols_in file + i % 16))) None
 
 -- The file of a machine, byte by byte.
 abbrev pub entry_byte : Entry → ℕ → ℕ

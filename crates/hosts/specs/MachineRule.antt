@@ -1,17 +1,17 @@
 -- The rule of a machine on three cells.
-use Rattle.std.specs.Prelude.{ℕ, ◌+◌, ◌*◌, Bool, cond, not, ◌&&◌, Some, None, Option, ◌==◌, slice_index_or}
-use Rattle.std.specs.Option.{option_or}
+use Rattle.std.specs.Prelude.{ℕ, ◌+◌, ◌*◌, Bool, cond, not, ◌&&◌, Some, None, Option, ◌==◌}
+use Rattle.std.specs.Option.{option_or, unwrap_or}
 use Rattle.toom.specs.declared.machine_cell.MachineCell.{MachineCell}
 use Rattle.hosts.specs.declared.entry.Entry.{Entry}
 use Rattle.hosts.specs.declared.entry.Motion.{Motion}
 use Rattle.hosts.specs.declared.entry.Motion.TheVariants.{Stay, Left, Right}
 use Rattle.hosts.specs.declared.machine.Machine.{Machine}
 use Rattle.hosts.specs.Digit.{Digit, zero_digit, cell, symbol_of, entered, written}
-use Rattle.hosts.specs.Table.{has_entry, blank, motion_code}
+use Rattle.hosts.specs.Table.{has_entry, blank, slot, motion_code}
 
 -- The entry of a state and a symbol.
 abbrev pub entry_at : Machine → (state symbol : ℕ) → Entry
-entry_at m state symbol = slice_index_or m.table (16 * state + symbol) blank
+entry_at m state symbol = unwrap_or (slot m.table (16 * state + symbol)) blank
 
 -- A cell is live if its head is a state of the machine and its symbol one of the machine's symbols.
 abbrev pub live : Machine → MachineCell → Bool

@@ -1,6 +1,7 @@
 -- The table of a machine: its sizes, and what each slot may hold.
-use Rattle.std.specs.Prelude.{◌≡◌, ℕ, ◌/◌, ◌%◌, ◌<◌, ◌≤◌, Bool, true, false, ◌&&◌, List, nat_le, nat_lt, slice_index_or}
+use Rattle.std.specs.Prelude.{◌≡◌, ℕ, ◌/◌, ◌%◌, ◌<◌, ◌≤◌, Bool, true, false, ◌&&◌, List, Option, None, IsSome, IsNone, nat_le, nat_lt, slice_index_or}
 use Rattle.std.proofs.Common.{lit<}
+use Rattle.std.specs.Option.{unwrap_or}
 use Rattle.hosts.specs.declared.entry.Entry.{Entry}
 use Rattle.hosts.specs.declared.entry.Motion.{Motion}
 use Rattle.hosts.specs.declared.entry.Motion.TheVariants.{Stay, Left, Right}
@@ -26,13 +27,13 @@ motion_code Stay = 0
 motion_code Left = 1
 motion_code Right = 2
 
-abbrev pub IsBlank : Entry → Type 0
-IsBlank e = (e.next ≡ 0) × (e.symbol ≡ 0) × (motion_code e.motion ≡ 0)
+-- Slot i is of state i / 16 and symbol i % 16. If the machine has these it holds an entry in range, else it is empty.
+abbrev pub slot : List (Option Entry) → ℕ → Option Entry
+slot table i = slice_index_or table i None
 
--- Slot i is of state i / 16 and symbol i % 16. If the machine has these it holds an entry in range, else it is blank.
-abbrev pub Used : (states symbols : ℕ) → List Entry → ℕ → Type 0
+abbrev pub Used : (states symbols : ℕ) → List (Option Entry) → ℕ → Type 0
 Used states symbols table i =
-    has_entry states symbols (i / 16) (i % 16) ≡ true → InRange states symbols (slice_index_or table i blank)
+    has_entry states symbols (i / 16) (i % 16) ≡ true → (IsSome (slot table i)) × InRange states symbols (unwrap_or (slot table i) blank)
 
-abbrev pub Unused : (states symbols : ℕ) → List Entry → ℕ → Type 0
-Unused states symbols table i = has_entry states symbols (i / 16) (i % 16) ≡ false → IsBlank (slice_index_or table i blank)
+abbrev pub Unused : (states symbols : ℕ) → List (Option Entry) → ℕ → Type 0
+Unused states symbols table i = has_entry states symbols (i / 16) (i % 16) ≡ false → IsNone (slot table i)

@@ -8,13 +8,13 @@ pub mod fault;
 pub mod file;
 pub mod rule;
 
-// The entry of state q and symbol s stands in slot 16 × q + s; the slots that no state and symbol have are blank: so a machine is its
+// The entry of state q and symbol s stands in slot 16 × q + s; a slot that no state and symbol have is empty: so a machine is its
 // numbers of states and symbols and its entries, and nothing else.
 #[derive(Clone, Copy)]
 pub struct Machine {
     states: u8,
     symbols: u8,
-    table: [Entry; 256],
+    table: [Option<Entry>; 256],
     ghost sized: { Sizes states symbols },
     ghost whole: { length table ≡ 256 },
     ghost used: { (i : ℕ) → Used states symbols table i },

@@ -2,17 +2,11 @@
 ghost use Rattle.std.specs.Prelude.{◌≡◌, ℕ, ◌+◌, ◌-◌, ◌*◌, ◌<◌, ◌≤◌, length, Some, None, IsNone, MatchResult, slice_index_or};
 ghost use Rattle.hosts.specs.MachineFault.{refusal_of};
 ghost use Rattle.hosts.specs.MachineFile.{states_in, symbols_in, entry_in, entry_questions, header_refusal, machine_refusal, slot_in, MachineIn};
-ghost use Rattle.hosts.specs.Table.{Sizes, blank};
+ghost use Rattle.hosts.specs.Table.{Sizes};
 
 use crate::entry::{Entry, Motion};
 use crate::machine::Machine;
 use crate::machine::fault::MachineFault;
-
-const BLANK: Entry = Entry {
-    next: 0,
-    symbol: 0,
-    motion: Motion::Stay,
-};
 
 // A file whose header is in order, and its numbers of states and symbols.
 #[derive(Drop)]
@@ -79,13 +73,13 @@ impl<'a> MachineFile<'a> {
     }
 
     // The whole table, or what is wrong with the entries first: they are asked in the order of the file.
-    fn table(&self) -> Result<[Entry; 256], MachineFault>
-        ensures { MatchResult result (λ table. (machine_refusal self.now.bytes.now ≡ None) × (length table ≡ 256) × ((i : ℕ) → i < 256 → slice_index_or table i blank ≡ slot_in self.now.bytes.now i)) (λ e. machine_refusal self.now.bytes.now ≡ Some (refusal_of e)) }
+    fn table(&self) -> Result<[Option<Entry>; 256], MachineFault>
+        ensures { MatchResult result (λ table. (machine_refusal self.now.bytes.now ≡ None) × (length table ≡ 256) × ((i : ℕ) → i < 256 → slice_index_or table i None ≡ slot_in self.now.bytes.now i)) (λ e. machine_refusal self.now.bytes.now ≡ Some (refusal_of e)) }
     {
-        let mut table = [BLANK; 256];
+        let mut table = [None; 256];
         for state in 1..=self.states {
             for symbol in 0..self.symbols {
-                table[16 * state as usize + symbol as usize] = self.entry(state, symbol)?;
+                table[16 * state as usize + symbol as usize] = Some(self.entry(state, symbol)?);
             }
         }
         Ok(table)

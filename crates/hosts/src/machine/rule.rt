@@ -12,11 +12,7 @@ impl Machine {
     fn entry(&self, cell: MachineCell) -> Option<Entry>
         ensures { result ≡ entry_of self.now cell }
     {
-        if (1..=self.states).contains(&cell.head) && cell.symbol < self.symbols {
-            Some(self.table[(16 * cell.head + cell.symbol) as usize])
-        } else {
-            None
-        }
+        self.table[(16 * cell.head + cell.symbol) as usize]
     }
 }
 
