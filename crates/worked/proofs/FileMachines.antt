@@ -1,21 +1,20 @@
 -- The machine of a machine file in order.
-use Rattle.std.proofs.Common.{◌≡◌, ℕ, List, map, None, refl, arith}
+use Rattle.std.proofs.Common.{◌≡◌, ℕ, List, map, None, Option, refl, arith}
 use Rattle.std.proofs.lemmas.List.FromFn.{length-map-range_with_len, get_or-map-range_with_len}
 use Rattle.std.specs.List.{range_with_len}
 use Rattle.hosts.specs.declared.entry.Entry.{Entry}
 use Rattle.hosts.specs.declared.machine.Machine.{Machine}
 use Rattle.hosts.specs.MachineFile.{states_in, symbols_in, slot_in, machine_refusal, MachineIn, Bytes}
-use Rattle.hosts.specs.Table.{blank}
 use Rattle.hosts.proofs.Tables.{Filled, filled}
 
 module _ (file : List ℕ) (bytes : Bytes file) (good : machine_refusal file ≡ None) where
-  abbrev table : List Entry
+  abbrev table : List (Option Entry)
   table = map (slot_in file) (range_with_len 0 256)
 
   facts : Filled file table (states_in file) (symbols_in file)
   facts =
       filled file bytes good table (length-map-range_with_len (slot_in file) 0 256)
-      (λ i h. get_or-map-range_with_len (slot_in file) 0 256 i i blank h (omega arith)) _ _ refl refl
+      (λ i h. get_or-map-range_with_len (slot_in file) 0 256 i i None h (omega arith)) _ _ refl refl
 
   pub machine_there : (m : Machine) × MachineIn file m
   machine_there = (
