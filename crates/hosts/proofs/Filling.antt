@@ -15,7 +15,7 @@ use Rattle.hosts.specs.Table.{has_entry}
 use Rattle.hosts.proofs.Questions.{none_is, asked_more, asked_first}
 use Rattle.hosts.proofs.Tables.{has_parts, slot_of, Filled, filled}
 
--- The entries before state q and those of state q.
+-- The entries before state q and the n of state q are those of q states.
 row_end : (q n : ℕ) → 1 ≤ q → (q - 1) * n + n ≡ q * n
 row_end zero n some = absurd (omega arith)
 row_end (suc p) n some = let e : suc p - 1 ≡ p = omega arith in rw e (sym (suc-mul p n))
