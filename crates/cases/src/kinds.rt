@@ -33,10 +33,10 @@ fn only_equal_cells_are_the_same(rt: HostRuntime) -> Result<(), Fail> {
         let x = MachineCell::from_byte(a).ok_or(Unbuilt)?;
         for b in 0..=255u8 {
             let y = MachineCell::from_byte(b).ok_or(Unbuilt)?;
-            assert_eq!(rt; x.same(y), a == b);
+            assert_eq!(rt; x == y, a == b);
         }
     }
-    assert!(rt; Bit::One.same(Bit::One) && Bit::Zero.same(Bit::Zero));
-    assert!(rt; !Bit::One.same(Bit::Zero) && !Bit::Zero.same(Bit::One));
+    assert!(rt; Bit::One == Bit::One && Bit::Zero == Bit::Zero);
+    assert!(rt; Bit::One != Bit::Zero && Bit::Zero != Bit::One);
     Ok(())
 }

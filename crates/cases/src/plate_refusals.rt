@@ -3,16 +3,26 @@ use crate::Unbuilt;
 use hosts::elementary::Elementary;
 use plate::fault::{BeatFault, LayFault, MapFault, ReadFault, ShadowFault, StrikeFault};
 use plate::plate::Plate;
+use plate::strike::Strike;
 use std::test::Fail;
 use toom::bit::Bit;
 use toom::kind::Kind;
 use toom::machine_cell::MachineCell;
 
+fn strike(plane: usize, row: usize, column: usize, byte: u8) -> Strike {
+    Strike {
+        plane,
+        row,
+        column,
+        byte,
+    }
+}
+
 #[test]
 fn a_bare_plate_refuses_all_but_lay(rt: HostRuntime) {
     let mut cells = [Bit::Zero; 10];
     let mut plate = Plate::new(&mut cells);
-    assert_eq!(rt; plate.strike(0, 0, 0, 9), Err(StrikeFault::Bare));
+    assert_eq!(rt; plate.strike(strike(0, 0, 0, 9)), Err(StrikeFault::Bare));
     assert_eq!(rt; plate.beat(&Elementary { rule: 0 }), Err(BeatFault::Bare));
     assert_eq!(rt; plate.read(&mut []), Err(ReadFault::Bare));
     assert_eq!(rt; plate.map(&mut []), Err(MapFault::Bare));
@@ -73,10 +83,10 @@ fn a_laid_plate_asks_in_order(rt: HostRuntime) -> Result<(), Fail> {
     let mut cells = [Bit::Zero; 36];
     let mut plate = Plate::new(&mut cells);
     plate.lay(2, 2, &[0, 1])?;
-    assert_eq!(rt; plate.strike(2, 2, 2, 2), Err(StrikeFault::Plane));
-    assert_eq!(rt; plate.strike(1, 2, 0, 2), Err(StrikeFault::Place));
-    assert_eq!(rt; plate.strike(1, 0, 2, 2), Err(StrikeFault::Place));
-    assert_eq!(rt; plate.strike(1, 1, 1, 2), Err(StrikeFault::Byte));
+    assert_eq!(rt; plate.strike(strike(2, 2, 2, 2)), Err(StrikeFault::Plane));
+    assert_eq!(rt; plate.strike(strike(1, 2, 0, 2)), Err(StrikeFault::Place));
+    assert_eq!(rt; plate.strike(strike(1, 0, 2, 2)), Err(StrikeFault::Place));
+    assert_eq!(rt; plate.strike(strike(1, 1, 1, 2)), Err(StrikeFault::Byte));
     let mut bytes = [7];
     assert_eq!(rt; plate.read(&mut bytes), Err(ReadFault::Output));
     assert_eq!(rt; bytes, [7]);

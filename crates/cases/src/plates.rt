@@ -7,6 +7,7 @@ use hosts::machine::Machine;
 use hosts::machine::fault::MachineFault;
 use plate::fault::{BeatFault, LayFault, ReadFault, StrikeFault};
 use plate::plate::Plate;
+use plate::strike::Strike;
 use std::process::Abort;
 use std::test::Fail;
 use toom::bit::Bit;
@@ -24,7 +25,12 @@ fn strike_first<C: Kind>(
     byte: u8,
 ) -> Result<(), StrikeFault> {
     for j in 0..count {
-        plate.strike(0, j / 4, j % 4, byte)?;
+        plate.strike(Strike {
+            plane: 0,
+            row: j / 4,
+            column: j % 4,
+            byte,
+        })?;
     }
     Ok(())
 }
@@ -51,7 +57,12 @@ fn a_majority_of_sixteen(rt: HostRuntime) -> Result<(), Fail> {
 // Marks the right triangle of side 3 at (3, 3) of a torus of side 5, all round its edges, in plane 1.
 fn strike_triangle<C: Kind>(plate: &mut Plate<'_, C>, byte: u8) -> Result<(), StrikeFault> {
     for (row, column) in [(3, 3), (3, 4), (3, 0), (4, 3), (4, 4), (0, 3)] {
-        plate.strike(1, row, column, byte)?;
+        plate.strike(Strike {
+            plane: 1,
+            row,
+            column,
+            byte,
+        })?;
     }
     Ok(())
 }
@@ -120,7 +131,12 @@ fn one_plane_and_a_second_lay(rt: HostRuntime) -> Result<(), Fail> {
     let mut cells = [Bit::Zero; 36];
     let mut plate = Plate::new(&mut cells);
     plate.lay(1, 2, &[1])?;
-    plate.strike(0, 1, 1, 0)?;
+    plate.strike(Strike {
+        plane: 0,
+        row: 1,
+        column: 1,
+        byte: 0,
+    })?;
     plate.beat(&Elementary { rule: 0x80 })?;
     let mut out = [7; 2];
     plate.read(&mut out)?;

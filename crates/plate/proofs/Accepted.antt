@@ -12,12 +12,6 @@ module _ {C : Type 0} (named : ℕ → Option C) (n side : ℕ) (tape : List ℕ
   pub lay_room : size_of n side ≤ memory
   lay_room = grind (arith, nat_tests)
 
-  pub lay_few : n ≤ 4096
-  lay_few = grind (arith, nat_tests)
-
-  pub lay_narrow : side ≤ 64
-  lay_narrow = grind (arith, nat_tests)
-
   pub lay_long : length tape ≡ n
   lay_long = grind (arith, nat_tests)
 

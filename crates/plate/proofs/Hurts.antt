@@ -1,11 +1,12 @@
 -- Counts of the copies that differ from the line: a plane's hurts added place by place, and the planes' one after the other.
-use Rattle.std.proofs.Common.{◌≡◌, ℕ, zero, suc, ◌+◌, ◌-◌, ◌*◌, ◌<◌, ◌≤◌, Bool, List, ◌++◌, map, length, get_or, take, drop, sym, ap, ◌∙◌, ap₂, inl, inr, add-one, arith}
+use Rattle.std.proofs.Common.{◌≡◌, ℕ, zero, suc, ◌+◌, ◌-◌, ◌*◌, ◌<◌, ◌≤◌, Bool, List, ◌++◌, map, length, get_or, take, drop, replicate, sym, ap, ◌∙◌, ap₂, inl, inr, add-one, arith}
 use Rattle.std.proofs.lemmas.List.FromFn.{length-map-range_with_len, get_or-map-range_with_len}
-use Rattle.std.proofs.lemmas.List.{ext_get_or, get_or_read, get_or-take, get_or-drop, get_or_append_left, get_or-append_right, length-append, length-drop}
+use Rattle.std.proofs.lemmas.List.{ext_get_or, get_or_read, get_or-take, get_or-drop, get_or_append_left, get_or-append_right, length-append, length-drop, length-take-le, length-replicate}
 use Rattle.std.proofs.lemmas.Bool.{cases_Bool, cases_lt}
 use Rattle.std.specs.List.{range_with_len}
 use Rattle.toom.specs.Torus.{total}
 use Rattle.toom.specs.Vote.{wounded}
+use Rattle.plate.specs.Board.{plane_of}
 use Rattle.plate.specs.Layout.{line_at, size_of}
 use Rattle.plate.specs.MapCall.{hurt_at}
 
@@ -14,6 +15,19 @@ abbrev pub AddedBelow : {C : Type 0} → (C → C → Bool) → (plane : List C)
 AddedBelow {C} equal plane line old i counts =
     ((k : ℕ) (d : C) → k < i → get_or counts k 0 ≡ get_or old k 0 + wounded equal line (get_or plane k d))
     × ((k : ℕ) → i ≤ k → get_or counts k 0 ≡ get_or old k 0)
+
+-- Counts whose front was made 0.
+module _ (front old : List ℕ) (area : ℕ) (room : area ≤ length old) (zeros : front ≡ replicate (length (take area old)) 0) where
+  front_is : front ≡ replicate area 0
+  front_is = zeros ∙ ap (λ m. replicate m 0) (length-take-le area old room)
+
+  front_long : length front ≡ area
+  front_long = ap length front_is ∙ length-replicate area 0
+
+  pub uncleared : (k : ℕ) → area ≤ k → get_or (front ++ drop area old) k 0 ≡ get_or old k 0
+  uncleared k h =
+      let back : area + (k - area) ≡ k = omega arith in
+      get_or-append_right front (drop area old) area k 0 front_long h ∙ get_or-drop area old (k - area) 0 ∙ ap (λ j. get_or old j 0) back
 
 wounded_low : {C : Type 0} (equal : C → C → Bool) (x cell : C) → wounded equal x cell ≤ 1
 wounded_low equal x cell = grind (arith, cases_Bool (equal cell x))
@@ -42,13 +56,13 @@ module _ {C : Type 0} (equal : C → C → Bool) (n side : ℕ) (cells : List C)
   counts_low old counts i inv few d k h = omega (arith, inv.0 k d h, hurt_low i d k)
 
   -- Plane i, its cell x of the line, and the counts before it.
-  module _ (old counts : List ℕ) (start i : ℕ) (plane : List C) (x : C) (long : length plane ≡ side * side)
-      (at : start ≡ i * (side * side)) (is : plane ≡ take (side * side) (drop start cells)) (within : i < n) (fits : size_of n side ≤ length cells)
+  module _ (old counts : List ℕ) (i : ℕ) (plane : List C) (x : C) (long : length plane ≡ side * side)
+      (is : plane ≡ plane_of cells side i) (within : i < n) (fits : size_of n side ≤ length cells)
       (line : x ≡ get_or cells (line_at n side i) x) (inv : CountedBelow old i counts) where
     -- The plane's copy at place k.
     copy : (k : ℕ) (d : C) → k < side * side → get_or plane k d ≡ get_or cells (i * (side * side) + k) d
     copy k d h =
-        ap (λ p. get_or p k d) is ∙ get_or-take area (drop start cells) k d h ∙ get_or-drop start cells k d ∙ ap (λ s. get_or cells (s + k) d) at
+        ap (λ p. get_or p k d) is ∙ get_or-take area (drop (i * (side * side)) cells) k d h ∙ get_or-drop (i * (side * side)) cells k d
 
     hurts : (k : ℕ) (d : C) → k < side * side
         → wounded equal x (get_or plane k d) ≡ wounded equal (get_or cells (line_at n side i) d) (get_or cells (i * (side * side) + k) d)

@@ -54,5 +54,13 @@ module _ {C : Type 0} (named : ℕ → Option C) (n side : ℕ) (tape : List ℕ
       kept.outside k d (inr (omega arith)) ∙ lined.outside k d (inr (omega arith)) ∙ voted.outside k d (inr (omega arith))
       ∙ copied.outside k d (inr (omega arith))
 
-  pub cells_laid : length v₄ ≡ length v₀ → CellsLaid named n side tape v₀ v₄
+  cells_laid : length v₄ ≡ length v₀ → CellsLaid named n side tape v₀ v₄
   cells_laid long = record { copies = in_copies; voted = in_voted; line = in_line; earlier = in_earlier; beyond = past_all; long = long }
+
+-- The same, where the length of the tape, the area and the number of copies are at hand.
+pub laid_of : {C : Type 0} (named : ℕ → Option C) (n side : ℕ) (tape : List ℕ) (long area copies : ℕ) (v₀ v₁ v₂ v₃ v₄ : List C)
+    → long ≡ n → area ≡ side * side → copies ≡ n * (side * side) → BlocksPainted named 0 long area tape v₀ v₁
+    → BlocksPainted named copies long area tape v₁ v₂ → BlocksPainted named (2 * copies) long 1 tape v₂ v₃
+    → BlocksPainted named (2 * copies + n) long 1 tape v₃ v₄ → length v₄ ≡ length v₀ → CellsLaid named n side tape v₀ v₄
+laid_of named n side tape long area copies v₀ v₁ v₂ v₃ v₄ l a k copied voted lined kept =
+    cells_laid named n side tape v₀ v₁ v₂ v₃ v₄ (rw (l, a) at copied) (rw (l, a, k) at voted) (rw (l, k) at lined) (rw (l, k) at kept)

@@ -1,5 +1,5 @@
 -- When a plate stands: it keeps a shape, and its memory holds that shape.
-use Rattle.std.proofs.Common.{◌≡◌, ℕ, ◌≤◌, leb, List, length, Some, None, Option, ap, ◌∙◌, ap₂, arith}
+use Rattle.std.proofs.Common.{◌≡◌, ℕ, ◌≤◌, leb, List, length, Some, None, Option, sym, ap, ◌∙◌, ap₂, arith}
 use Rattle.std.proofs.lemmas.Bool.{cond_both, cond-true, le-leb, leb-true}
 use Rattle.plate.specs.declared.laid.Laid.{Laid}
 use Rattle.plate.specs.Board.{Board, side_of, held, standing}
@@ -7,6 +7,10 @@ use Rattle.plate.specs.Layout.{size_of}
 
 pub some_same : {X : Type 0} (x y : X) → Some x ≡ Some y → x ≡ y
 some_same x y e = cc
+
+-- What the call of `standing` answered.
+pub stands : {C : Type 0} (b : Board C) (o : Option Laid) (l : Laid) → o ≡ standing b → o ≡ Some l → standing b ≡ Some l
+stands b o l asked answer = sym asked ∙ answer
 
 -- The memory holds the shape.
 abbrev pub Holds : {C : Type 0} → Laid → List C → Type 0

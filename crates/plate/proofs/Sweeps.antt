@@ -1,20 +1,29 @@
 -- Parts of the memory that are written one after another.
 use Rattle.std.proofs.Common.{◌≡◌, ℕ, ◌+◌, ◌-◌, ◌<◌, ◌≤◌, ◌≢◌, ◌⊎◌, List, length, get_or, set, sym, ap, ◌∙◌, subst, inl, inr, arith}
-use Rattle.std.proofs.lemmas.List.{get_or-set_same, get_or-set_other, get_or_read}
+use Rattle.std.proofs.lemmas.List.{get_or-set_same, get_or-set_other}
 use Rattle.std.proofs.lemmas.Bool.{cases_lt}
+use Rattle.std.specs.List.{CopiedTo, SameBelow, SameFrom}
 use Rattle.plate.specs.Sweep.{Apart, Wanted, Swept}
 
 -- A place among those at `from` is none of the first n that are written.
 pub apart_out : (to from count : ℕ) → Apart to from count → (j n : ℕ) → j < count → n ≤ count → (from + j < to) ⊎ (to + n ≤ from + j)
 apart_out to from count apart j n h le = elim apart [ inl a ↦ inr (omega arith) | inr b ↦ inl (omega arith) ]
 
--- Parts of two ranges that are apart.
-pub apart_in : (to from count t f m : ℕ) → Apart to from count → to ≤ t → t + m ≤ to + count → from ≤ f → f + m ≤ from + count → Apart t f m
-apart_in to from count t f m apart tl th fl fh = elim apart [ inl a ↦ inl (omega arith) | inr b ↦ inr (omega arith) ]
-
 module _ {C : Type 0} where
   pub swept_none : (to : ℕ) (wanted : Wanted C) (xs : List C) → Swept to 0 wanted xs xs
   swept_none to wanted xs = record { inside = λ j d h. absurd (omega arith); outside = λ k d h. λ i. get_or xs k d }
+
+  -- A run of cells that was copied from elsewhere.
+  pub swept_copied : (to from m n : ℕ) (old new : List C) → m ≡ n
+      → CopiedTo old new from to m × SameBelow old new to × SameFrom old new (to + m)
+      → Swept to n (λ j d x. x ≡ get_or old (from + j) d) old new
+  swept_copied to from m n old new same copied =
+      record {
+        inside = λ j d h.
+            let place : from + (to + j - to) ≡ from + j = omega arith in
+            copied.0 (to + j) d (omega arith) (omega arith) ∙ ap (λ k. get_or old k d) place;
+        outside = λ k d h. elim h [ inl below ↦ copied.1 k d below | inr past ↦ copied.2 k d (omega arith) ];
+      }
 
   -- One more place.
   pub swept_more : (to n : ℕ) (wanted : Wanted C) (old xs : List C) (x : C) → Swept to n wanted old xs → to + n < length xs
@@ -62,12 +71,6 @@ module _ {C : Type 0} where
             let out : (k < to) ⊎ (to + m ≤ k) = elim h [ inl l ↦ inl l | inr g ↦ inr (omega arith) ] in
             b.outside k d past ∙ a.outside k d out;
       }
-
-  -- What is read at a place among those at `from` is still old.
-  pub read_old : (to from count n : ℕ) (wanted : Wanted C) (old xs : List C) (x : C) → Swept to n wanted old xs → Apart to from count
-      → n < count → from + count ≤ length xs → x ≡ get_or xs (from + n) x → (d : C) → x ≡ get_or old (from + n) d
-  read_old to from count n wanted old xs x w apart h within is d =
-      get_or_read xs (from + n) x (omega arith) is d ∙ w.outside (from + n) d (apart_out to from count apart n n h (omega arith))
 
   -- Below what is written all is old, at an index written another way.
   pub below_old : (to n : ℕ) (wanted : Wanted C) (old xs : List C) → Swept to n wanted old xs → (k m : ℕ) → k ≡ m → m < to → (d : C)

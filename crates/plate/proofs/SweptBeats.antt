@@ -3,7 +3,7 @@ use Rattle.std.proofs.Common.{◌≡◌, ℕ, ◌+◌, ◌*◌, ◌<◌, Bool, L
 use Rattle.hosts.specs.Ring.{left_of, right_of, stepped as ring-step}
 use Rattle.plate.specs.BeatCall.{CellsBeaten, voted_copies, copies, line}
 use Rattle.plate.specs.Layout.{copy_at, line_at, earlier_at}
-use Rattle.plate.specs.Sweep.{Swept, HostAnswers, PlanesVotes, RingSteps}
+use Rattle.plate.specs.Sweep.{Swept, PlanesVotes, RingSteps}
 use Rattle.plate.proofs.Grids.{place_in}
 use Rattle.hosts.proofs.Rings.{left_below, right_below}
 use Rattle.plate.proofs.Sweeps.{three}
@@ -17,8 +17,7 @@ module _ {C : Type 0} (host : C → C → C → C) (n : ℕ) where
 module _ {C : Type 0} (equal : C → C → Bool) (host : C → C → C → C) (n side : ℕ) (before voted stepped moved after : List C)
     (votes : Swept (n * (side * side)) (n * (side * side)) (PlanesVotes equal n side before) before voted)
     (steps : Swept 0 (n * (side * side)) (RingSteps host (n * (side * side)) n (side * side) voted) voted stepped)
-    (moves : Swept (2 * (n * (side * side)) + n) n
-    (HostAnswers (λ left centre right. centre) (2 * (n * (side * side))) (2 * (n * (side * side))) (2 * (n * (side * side))) stepped) stepped moved)
+    (moves : Swept (2 * (n * (side * side)) + n) n (λ j d x. x ≡ get_or stepped (line_at n side j) d) stepped moved)
     (lines : Swept (2 * (n * (side * side))) (n * 1) (RingSteps host (2 * (n * (side * side)) + n) n 1 moved) moved after) where
   -- The copies and the votes stay while the line steps.
   below_line : (k : ℕ) (d : C) → k < 2 * (n * (side * side)) → get_or after k d ≡ get_or stepped k d

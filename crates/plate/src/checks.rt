@@ -1,25 +1,17 @@
-// The questions of lay and strike that need no plate: they are of the shape and the kind alone.
-ghost use Rattle.std.specs.Prelude.{◌≡◌, ◌≤◌, length, Some, None, MatchResult};
+// The questions of lay and strike that need no plate: they are of the shape and the kind alone. Each asks of plain numbers, which may be no shape.
+ghost use Rattle.std.specs.Prelude.{◌≡◌, length, Some, None, MatchResult};
 ghost use Rattle.toom.specs.Shadow.{IsShadow, no_marks};
 ghost use Rattle.hosts.specs.Refusal.{ask_each};
 ghost use Rattle.plate.specs.Faults.{lay_fault, strike_fault};
 ghost use Rattle.plate.specs.LayCall.{tape_questions, lay_questions};
-ghost use Rattle.plate.specs.Layout.{size_of};
 ghost use Rattle.plate.specs.StrikeCall.{place_questions};
 
 use crate::fault::{LayFault, StrikeFault};
 use crate::laid::MAX_PLANES;
+use crate::shape::Shape;
+use crate::strike::Strike;
 use toom::kind::Kind;
 use toom::shadow::Shadow;
-
-// How many cells a plate uses.
-pub(crate) fn size(planes: usize, side: usize) -> usize
-    requires few { planes ≤ 4096 }
-    requires narrow { side ≤ 64 }
-    ensures { result ≡ size_of planes side }
-{
-    2 * (planes * (side * side)) + 2 * planes
-}
 
 // Each byte of the tape has to name a cell.
 fn check_tape<C: Kind>(tape: &[u8]) -> Result<(), LayFault>
@@ -49,7 +41,11 @@ pub fn check_lay<C: Kind>(
     if tape.len() != planes {
         return Err(LayFault::Tape);
     }
-    if size(planes, shadow.side()) > memory {
+    let shape = Shape {
+        planes,
+        side: shadow.side(),
+    };
+    if shape.size() > memory {
         return Err(LayFault::Memory);
     }
     check_tape::<C>(tape)?;
@@ -57,21 +53,14 @@ pub fn check_lay<C: Kind>(
 }
 
 // The cell of the byte of a strike on a plate of this shape, or the first question that fails.
-pub fn check_strike<C: Kind>(
-    planes: usize,
-    side: usize,
-    plane: usize,
-    row: usize,
-    column: usize,
-    byte: u8,
-) -> Result<C, StrikeFault>
-    ensures { MatchResult result (λ x. (place_questions C.cell_of planes side plane row column byte ≡ None) × (C.cell_of byte ≡ Some x)) (λ e. place_questions C.cell_of planes side plane row column byte ≡ Some (strike_fault e)) }
+pub fn check_strike<C: Kind>(planes: usize, side: usize, strike: Strike) -> Result<C, StrikeFault>
+    ensures { MatchResult result (λ x. (place_questions C.cell_of planes side strike.plane strike.row strike.column strike.byte ≡ None) × (C.cell_of strike.byte ≡ Some x)) (λ e. place_questions C.cell_of planes side strike.plane strike.row strike.column strike.byte ≡ Some (strike_fault e)) }
 {
-    if plane >= planes {
+    if strike.plane >= planes {
         return Err(StrikeFault::Plane);
     }
-    if row >= side || column >= side {
+    if strike.row >= side || strike.column >= side {
         return Err(StrikeFault::Place);
     }
-    C::from_byte(byte).ok_or(StrikeFault::Byte)
+    C::from_byte(strike.byte).ok_or(StrikeFault::Byte)
 }

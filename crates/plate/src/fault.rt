@@ -47,6 +47,7 @@ pub enum ReadFault {
     Majority { plane: usize },
 }
 
+// The cases of a map and of a shadow are alike, but a call's fault type settles the word of its refusal.
 #[derive(Clone, Copy, PartialEq, Eq, Debug)]
 pub enum MapFault {
     Bare,

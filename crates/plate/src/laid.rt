@@ -1,6 +1,7 @@
 // What a laid plate keeps beside its cells: the number of its planes, its age and its shadow, whose side is that of the planes.
-ghost use Rattle.std.specs.Prelude.{◌≤◌};
+ghost use Rattle.std.specs.Prelude.{◌≡◌, ◌≤◌};
 
+use crate::shape::Shape;
 use toom::shadow::Shadow;
 
 pub const MAX_PLANES: usize = 4096;
@@ -15,4 +16,16 @@ pub struct Laid {
     ghost some: { 1 ≤ planes },
     ghost few: { planes ≤ 4096 },
     ghost young: { age ≤ 1048575 },
+}
+
+impl Laid {
+    pub(crate) fn shape(&self) -> Shape
+        ensures planes { result.planes ≡ self.now.planes }
+        ensures side { result.side ≡ self.now.shadow.side }
+    {
+        Shape {
+            planes: self.planes,
+            side: self.shadow.side(),
+        }
+    }
 }

@@ -4,6 +4,7 @@ ghost use Rattle.plate.specs.LayCall.{CellsLaid};
 ghost use Rattle.plate.specs.Layout.{size_of};
 ghost use Rattle.plate.specs.Painted.{Painted, BlocksPainted};
 
+use crate::shape::Shape;
 use toom::kind::Kind;
 
 // Writes a cell to `count` places from `from` on.
@@ -11,21 +12,22 @@ fn paint<C: Kind>(cells: &mut [C], from: usize, count: usize, cell: C)
     requires { from + count ≤ length cells.old }
     ensures { Painted from count cell cells.old cells.new }
 {
-    for j in 0..count {
-        cells[from + j] = cell;
+    // A `fill` asks for a clone that cannot fail, which not every kind promises.
+    for place in cells[from..from + count].iter_mut() {
+        *place = cell;
     }
 }
 
-// Writes n blocks of w cells from `from` on, each of the cell that its byte names.
-fn paint_blocks<C: Kind>(cells: &mut [C], from: usize, n: usize, w: usize, tape: &[u8])
-    requires within { from + n * w ≤ length cells.old }
-    requires long { length tape.now ≡ n }
-    requires named { (i : ℕ) → i < n → is_some (C.cell_of (slice_index tape.now i)) ≡ true }
-    ensures { BlocksPainted C.cell_of from n w tape.now cells.old cells.new }
+// Writes from `from` on a block of w cells for each byte of the tape, of the cell that the byte names.
+fn paint_blocks<C: Kind>(cells: &mut [C], from: usize, w: usize, tape: &[u8])
+    requires within { from + length tape.now * w ≤ length cells.old }
+    requires named { (i : ℕ) → i < length tape.now → is_some (C.cell_of (slice_index tape.now i)) ≡ true }
+    ensures { BlocksPainted C.cell_of from (length tape.now) w tape.now cells.old cells.new }
 {
+    // The blocks by their start: a proof knows nothing of what is written through `chunks_exact_mut`.
     let mut at = from;
-    for i in 0..n {
-        if let Some(cell) = C::from_byte(tape[i]) {
+    for byte in tape {
+        if let Some(cell) = C::from_byte(*byte) {
             paint(cells, at, w, cell);
         }
         at += w;
@@ -33,18 +35,16 @@ fn paint_blocks<C: Kind>(cells: &mut [C], from: usize, n: usize, w: usize, tape:
 }
 
 // Lays the cells that the tape names.
-pub(crate) fn lay_cells<C: Kind>(cells: &mut [C], planes: usize, side: usize, tape: &[u8])
-    requires within { size_of planes side ≤ length cells.old }
-    requires long { length tape.now ≡ planes }
-    requires named { (i : ℕ) → i < planes → is_some (C.cell_of (slice_index tape.now i)) ≡ true }
-    requires few { planes ≤ 4096 }
-    requires narrow { side ≤ 64 }
-    ensures { CellsLaid C.cell_of planes side tape.now cells.old cells.new }
+pub(crate) fn lay_cells<C: Kind>(cells: &mut [C], shape: Shape, tape: &[u8])
+    requires within { size_of shape.planes shape.side ≤ length cells.old }
+    requires long { length tape.now ≡ shape.planes }
+    requires named { (i : ℕ) → i < shape.planes → is_some (C.cell_of (slice_index tape.now i)) ≡ true }
+    ensures { CellsLaid C.cell_of shape.planes shape.side tape.now cells.old cells.new }
 {
-    let plane = side * side;
-    let copies = planes * plane;
-    paint_blocks(cells, 0, planes, plane, tape);
-    paint_blocks(cells, copies, planes, plane, tape);
-    paint_blocks(cells, 2 * copies, planes, 1, tape);
-    paint_blocks(cells, 2 * copies + planes, planes, 1, tape);
+    let area = shape.area();
+    let copies = shape.copies();
+    paint_blocks(cells, 0, area, tape);
+    paint_blocks(cells, copies, area, tape);
+    paint_blocks(cells, 2 * copies, 1, tape);
+    paint_blocks(cells, 2 * copies + shape.planes, 1, tape);
 }

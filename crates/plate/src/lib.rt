@@ -10,4 +10,6 @@ pub mod majority;
 mod mapping;
 pub mod plate;
 mod reading;
+mod shape;
+pub mod strike;
 mod sweep;

@@ -14,7 +14,7 @@ fn candidate<C: Kind>(plane: &[C], first: C) -> C
         if left == 0 {
             cell = *x;
             left = 1;
-        } else if x.same(cell) {
+        } else if *x == cell {
             left += 1;
         } else {
             left -= 1;
@@ -27,22 +27,14 @@ fn candidate<C: Kind>(plane: &[C], first: C) -> C
 fn count_same<C: Kind>(plane: &[C], cell: C) -> usize
     ensures { result ≡ holders C.eq cell plane.now }
 {
-    let mut count: usize = 0;
-    for x in plane {
-        if x.same(cell) {
-            count += 1;
-        }
-    }
-    count
+    plane.iter().filter(|x| **x == cell).count()
 }
 
 pub fn majority<C: Kind>(plane: &[C]) -> Option<C>
     ensures { result ≡ majority_of C.eq plane.now }
 {
-    if plane.len() == 0 {
-        return None;
-    }
-    let cell = candidate(plane, plane[0]);
+    let first = plane.first()?;
+    let cell = candidate(plane, *first);
     if count_same(plane, cell) > plane.len() / 2 {
         Some(cell)
     } else {

@@ -5,14 +5,14 @@ ghost use Rattle.toom.specs.Vote.{wounded};
 ghost use Rattle.plate.specs.Layout.{size_of};
 ghost use Rattle.plate.specs.MapCall.{hurt_at};
 
-use crate::reading::plane_at;
+use crate::shape::Shape;
 use toom::kind::Kind;
 
 // 1 if the copy differs from the line, else 0.
 fn hurt<C: Kind>(copy: C, line: C) -> u16
     ensures { result ≡ wounded C.eq line copy }
 {
-    if copy.same(line) { 0 } else { 1 }
+    u16::from(copy != line)
 }
 
 // Adds 1 to the count of each place whose copy differs from the line.
@@ -22,34 +22,23 @@ fn add_hurt<C: Kind>(counts: &mut [u16], plane: &[C], line: C)
     ensures places { (k : ℕ) (d : C) → k < length plane.now → slice_index counts.new k ≡ slice_index counts.old k + wounded C.eq line (slice_index_or plane.now k d) }
     ensures rest { (k : ℕ) → length plane.now ≤ k → slice_index counts.new k ≡ slice_index counts.old k }
 {
-    for k in 0..plane.len() {
-        counts[k] += hurt(plane[k], line);
+    // Not `iter_mut` in a `zip`, after which a proof knows none of the counts.
+    for (k, copy) in plane.iter().enumerate() {
+        counts[k] += hurt(*copy, line);
     }
 }
 
-// Makes the counts of the first places 0.
-fn clear(counts: &mut [u16], area: usize)
-    requires { area ≤ length counts.old }
-    ensures places { (k : ℕ) → k < area → slice_index counts.new k ≡ 0 }
-    ensures rest { (k : ℕ) → area ≤ k → slice_index counts.new k ≡ slice_index counts.old k }
-{
-    counts[0..area].fill(0);
-}
-
 // Writes the count of each place, row by row.
-pub(crate) fn write_map<C: Kind>(cells: &[C], planes: usize, side: usize, out: &mut [u16])
-    requires planes { planes ≤ 4096 }
-    requires side { side ≤ 64 }
-    requires size { size_of planes side ≤ length cells.now }
-    requires room { side * side ≤ length out.old }
-    ensures { (d : C) → out.new ≡ map (hurt_at C.eq planes side cells.now d) (range_with_len 0 (side * side)) ++ drop (side * side) out.old }
+pub(crate) fn write_map<C: Kind>(cells: &[C], shape: Shape, out: &mut [u16])
+    requires size { size_of shape.planes shape.side ≤ length cells.now }
+    requires room { shape.side * shape.side ≤ length out.old }
+    ensures { (d : C) → out.new ≡ map (hurt_at C.eq shape.planes shape.side cells.now d) (range_with_len 0 (shape.side * shape.side)) ++ drop (shape.side * shape.side) out.old }
 {
-    let area = side * side;
-    let lines = 2 * (planes * area);
-    clear(out, area);
-    let mut start = 0;
-    for i in 0..planes {
-        add_hurt(out, plane_at(cells, start, area), cells[lines + i]);
-        start += area;
+    let area = shape.area();
+    let copies = shape.copies();
+    let line = &cells[2 * copies..2 * copies + shape.planes];
+    out[..area].fill(0);
+    for (plane, cell) in cells[..copies].chunks_exact(area).zip(line) {
+        add_hurt(out, plane, *cell);
     }
 }

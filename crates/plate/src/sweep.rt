@@ -6,6 +6,7 @@ ghost use Rattle.plate.specs.BeatCall.{CellsBeaten};
 ghost use Rattle.plate.specs.Layout.{size_of};
 ghost use Rattle.plate.specs.Sweep.{Apart, Swept, HostAnswers, RowVotes, PlaneVotes, PlanesVotes, RingSteps};
 
+use crate::shape::Shape;
 use hosts::host::Host;
 use toom::kind::Kind;
 use toom::vote::vote;
@@ -14,21 +15,10 @@ use toom::vote::vote;
 struct Ballot;
 
 impl<C: Kind> Host<C> for Ballot {
-    ghost meaning = { λ _. vote_of C.Kind.equal };
+    ghost meaning = { λ _. vote_of C.eq };
 
     fn answer(&self, north: C, east: C, own: C) -> C {
         vote(north, east, own)
-    }
-}
-
-// The host that answers with the centre.
-struct Keep;
-
-impl<C: Kind> Host<C> for Keep {
-    ghost meaning = { λ _ left centre right. centre };
-
-    fn answer(&self, left: C, centre: C, right: C) -> C {
-        centre
     }
 }
 
@@ -51,6 +41,7 @@ fn fill<C: Kind, H: Host<C>>(
     requires right { Apart to c count }
     ensures { Swept to count (HostAnswers (H.meaning host.now) a b c cells.old) cells.old cells.new }
 {
+    // By index: the cells that are written and the three that are read lie in one slice.
     for j in 0..count {
         cells[to + j] = host.answer(cells[a + j], cells[b + j], cells[c + j]);
     }
@@ -77,6 +68,7 @@ fn vote_plane<C: Kind>(cells: &mut [C], to: usize, own: usize, side: usize)
     ensures { Swept to (side * side) (PlaneVotes C.eq own side cells.old) cells.old cells.new }
 {
     let last = side - 1;
+    // By index: a row is read with the next one, out of the slice that is written.
     for r in 0..last {
         let row = r * side;
         vote_row(cells, to + row, own + row + side, own + row, side);
@@ -86,16 +78,16 @@ fn vote_plane<C: Kind>(cells: &mut [C], to: usize, own: usize, side: usize)
 }
 
 // Votes the planes into the part of the memory after them.
-fn vote_planes<C: Kind>(cells: &mut [C], planes: usize, side: usize)
-    requires side { Side side }
-    requires within { 2 * (planes * (side * side)) ≤ length cells.old }
-    ensures { Swept (planes * (side * side)) (planes * (side * side)) (PlanesVotes C.eq planes side cells.old) cells.old cells.new }
+fn vote_planes<C: Kind>(cells: &mut [C], shape: Shape)
+    requires { 2 * (shape.planes * (shape.side * shape.side)) ≤ length cells.old }
+    ensures { Swept (shape.planes * (shape.side * shape.side)) (shape.planes * (shape.side * shape.side)) (PlanesVotes C.eq shape.planes shape.side cells.old) cells.old cells.new }
 {
-    let area = side * side;
-    let votes = planes * area;
-    for i in 0..planes {
+    let area = shape.area();
+    let votes = shape.copies();
+    // By index: the planes are read out of the slice that is written.
+    for i in 0..shape.planes {
         let plane = i * area;
-        vote_plane(cells, votes + plane, plane, side);
+        vote_plane(cells, votes + plane, plane, shape.side);
     }
 }
 
@@ -133,18 +125,17 @@ fn ring_step<C: Kind, H: Host<C>>(
 }
 
 // One beat of the cells: all planes are voted, the copies step from the votes, and the line moves to the earlier line and steps from it.
-pub(crate) fn beat_cells<C: Kind, H: Host<C>>(host: &H, cells: &mut [C], planes: usize, side: usize)
-    requires some { 1 ≤ planes }
-    requires side { Side side }
-    requires within { size_of planes side ≤ length cells.old }
-    ensures { CellsBeaten C.eq (H.meaning host.now) planes side cells.old cells.new }
+pub(crate) fn beat_cells<C: Kind, H: Host<C>>(host: &H, cells: &mut [C], shape: Shape)
+    requires { size_of shape.planes shape.side ≤ length cells.old }
+    ensures { CellsBeaten C.eq (H.meaning host.now) shape.planes shape.side cells.old cells.new }
 {
-    let area = side * side;
-    let voted = planes * area;
+    let planes = shape.planes;
+    let area = shape.area();
+    let voted = shape.copies();
     let line = 2 * voted;
     let earlier = line + planes;
-    vote_planes(cells, planes, side);
+    vote_planes(cells, shape);
     ring_step(host, cells, 0, voted, planes, area);
-    fill(&Keep, cells, earlier, line, line, line, planes);
+    cells.copy_within(line..earlier, earlier);
     ring_step(host, cells, line, earlier, planes, 1);
 }

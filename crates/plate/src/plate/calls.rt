@@ -3,10 +3,10 @@
 ghost use Rattle.std.specs.Prelude.{◌≡◌, []};
 ghost use Rattle.plate.specs.Board.{standing};
 ghost use Rattle.plate.specs.Faults.{lay_fault, strike_fault, beat_fault, read_fault, map_fault, shadow_fault};
+// `Strike` is the call in a clause; the struct is named by its path.
 ghost use Rattle.plate.specs.History.{Lay, Strike, Beat, Read, Map, Show, Reached};
 ghost use Rattle.plate.specs.Plates.{board, members, Answers, GoesOn};
 
-use crate::checks::size;
 use crate::fault::{BeatFault, LayFault, MapFault, ReadFault, ShadowFault, StrikeFault};
 use crate::laid::Laid;
 use crate::plate::Plate;
@@ -27,12 +27,8 @@ impl<'a, C: Kind> Plate<'a, C> {
     pub fn standing(&self) -> Option<Laid>
         ensures { result ≡ standing (board self.now) }
     {
-        let laid = self.laid?;
-        if size(laid.planes, laid.shadow.side()) <= self.cells.len() {
-            Some(laid)
-        } else {
-            None
-        }
+        self.laid
+            .filter(|laid| laid.shape().size() <= self.cells.len())
     }
 
     // Every copy, voted copy and line cell becomes the cell that the tape names; the shadow is empty, the age 0.
@@ -45,18 +41,12 @@ impl<'a, C: Kind> Plate<'a, C> {
     }
 
     // One copy becomes the cell of the byte, and its place enters the shadow.
-    pub fn strike(
-        &mut self,
-        plane: usize,
-        row: usize,
-        column: usize,
-        byte: u8,
-    ) -> Result<(), StrikeFault>
-        ensures outcome { Answers (members C.eq C.byte_of C.cell_of) strike_fault (Strike plane row column byte) result (board self.old) (board self.new) }
-        ensures heals { GoesOn (members C.eq C.byte_of C.cell_of) (Strike plane row column byte) result (board self.old) (board self.new) }
+    pub fn strike(&mut self, strike: crate::strike::Strike) -> Result<(), StrikeFault>
+        ensures outcome { Answers (members C.eq C.byte_of C.cell_of) strike_fault (Strike strike.plane strike.row strike.column strike.byte) result (board self.old) (board self.new) }
+        ensures heals { GoesOn (members C.eq C.byte_of C.cell_of) (Strike strike.plane strike.row strike.column strike.byte) result (board self.old) (board self.new) }
         ensures same { self.new.cells.ghost_name ≡ self.old.cells.ghost_name }
     {
-        self.try_strike(plane, row, column, byte)
+        self.try_strike(strike)
     }
 
     // All planes are voted, then every copy and the line step by the host, and the shadow is voted.

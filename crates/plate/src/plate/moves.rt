@@ -1,6 +1,7 @@
 // What each call on a plate does: asks its questions in order, and only then writes.
 ghost use Rattle.std.specs.Prelude.{◌≡◌, ◌<◌, length, slice_set};
 ghost use Rattle.plate.specs.Faults.{lay_fault, strike_fault, beat_fault, read_fault, map_fault, shadow_fault};
+// `Strike` is the call in a clause; the struct is named by its path.
 ghost use Rattle.plate.specs.History.{Lay, Strike, Beat, Read, Map, Show};
 ghost use Rattle.plate.specs.Plates.{board, members, Answers};
 
@@ -26,32 +27,27 @@ impl<'a, C: Kind> Plate<'a, C> {
         ensures same { self.new.cells.ghost_name ≡ self.old.cells.ghost_name }
     {
         let shadow = check_lay::<C>(planes, side, tape, self.cells.len())?;
-        lay_cells(self.cells, planes, side, tape);
-        self.laid = Some(Laid {
+        let laid = Laid {
             planes,
             age: 0,
             shadow,
-        });
+        };
+        lay_cells(self.cells, laid.shape(), tape);
+        self.laid = Some(laid);
         Ok(())
     }
 
-    pub(crate) fn try_strike(
-        &mut self,
-        plane: usize,
-        row: usize,
-        column: usize,
-        byte: u8,
-    ) -> Result<(), StrikeFault>
-        ensures outcome { Answers (members C.eq C.byte_of C.cell_of) strike_fault (Strike plane row column byte) result (board self.old) (board self.new) }
+    pub(crate) fn try_strike(&mut self, strike: crate::strike::Strike) -> Result<(), StrikeFault>
+        ensures outcome { Answers (members C.eq C.byte_of C.cell_of) strike_fault (Strike strike.plane strike.row strike.column strike.byte) result (board self.old) (board self.new) }
         ensures same { self.new.cells.ghost_name ≡ self.old.cells.ghost_name }
     {
         let mut laid = self.standing().ok_or(StrikeFault::Bare)?;
         let side = laid.shadow.side();
-        let cell = check_strike::<C>(laid.planes, side, plane, row, column, byte)?;
-        laid.shadow.add(row, column)?;
+        let cell = check_strike::<C>(laid.planes, side, strike)?;
+        laid.shadow.add(strike.row, strike.column)?;
         put(
             self.cells,
-            plane * (side * side) + (row * side + column),
+            strike.plane * (side * side) + (strike.row * side + strike.column),
             cell,
         );
         self.laid = Some(laid);
@@ -66,8 +62,7 @@ impl<'a, C: Kind> Plate<'a, C> {
         if laid.age >= MAX_AGE {
             return Err(BeatFault::Age);
         }
-        let side = laid.shadow.side();
-        beat_cells(host, self.cells, laid.planes, side);
+        beat_cells(host, self.cells, laid.shape());
         laid.shadow.vote();
         laid.age += 1;
         self.laid = Some(laid);
@@ -81,11 +76,11 @@ impl<'a, C: Kind> Plate<'a, C> {
         if out.len() < laid.planes {
             return Err(ReadFault::Output);
         }
-        let side = laid.shadow.side();
-        if let Some(plane) = first_split(self.cells, laid.planes, side) {
+        let shape = laid.shape();
+        if let Some(plane) = first_split(self.cells, shape) {
             return Err(ReadFault::Majority { plane });
         }
-        write_reading(self.cells, laid.planes, side, out);
+        write_reading(self.cells, shape, out);
         Ok(())
     }
 
@@ -93,11 +88,11 @@ impl<'a, C: Kind> Plate<'a, C> {
         ensures { Answers (members C.eq C.byte_of C.cell_of) map_fault (Map out.old out.new) result (board self.now) (board self.now) }
     {
         let laid = self.standing().ok_or(MapFault::Bare)?;
-        let side = laid.shadow.side();
-        if out.len() < side * side {
+        let shape = laid.shape();
+        if out.len() < shape.area() {
             return Err(MapFault::Output);
         }
-        write_map(self.cells, laid.planes, side, out);
+        write_map(self.cells, shape, out);
         Ok(())
     }
 

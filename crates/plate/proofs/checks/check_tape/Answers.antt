@@ -1,6 +1,6 @@
 use Rattle.std.proofs.Common.{length, is_some, sym, ap, ◌∙◌}
-use Rattle.std.proofs.lemmas.Bool.{cond-true, cond-false}
-use Rattle.hosts.proofs.Questions.{asked_more, asked_first}
+use Rattle.std.proofs.lemmas.Bool.{cond-false}
+use Rattle.hosts.proofs.Questions.{asked_first}
 use Rattle.plate.specs.LayCall.{tape_questions}
 use Rattle.plate.proofs.checks.check_tape.Goals as goal
 
@@ -10,8 +10,3 @@ returns-then-is_none g c =
     let none = ap is_some (sym c.from_byte.ensures) ∙ c.if-is_none.ensures in
     asked_first (tape_questions g.C.Kind.cell_of tape) (length tape) c.loop-index.index _ c.loop-index.invariant (cond-false _ _ _ none)
     c.loop-index-test.true
-
-pub loop-index-preserved : goal.loop-index-preserved
-loop-index-preserved g c =
-    let some = ap is_some (sym c.from_byte.ensures) ∙ c.if-is_none.ensures in
-    asked_more (tape_questions g.C.Kind.cell_of c.args.tape.now) c.loop-index.index c.loop-index.invariant (cond-true _ _ _ some)

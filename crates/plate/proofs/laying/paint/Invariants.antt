@@ -1,5 +1,5 @@
-use Rattle.plate.specs.Painted.{Painted}
+use Rattle.std.proofs.Common.{◌≡◌, ℕ, ◌<◌, get_or}
 use Rattle.plate.proofs.laying.paint.Given as goal
 
-abbrev pub invariant-loop-j : goal.invariant-loop-j
-invariant-loop-j g l = Painted l.from l.j l.cell l.initial.cells l.cells
+abbrev pub invariant-loop-place : goal.invariant-loop-place
+invariant-loop-place g l = (j : ℕ) (d : g.row.C.Denot) → j < l.place-index → get_or l.place-items j d ≡ l.cell

@@ -2,6 +2,6 @@ use Rattle.std.proofs.Common.{◌≡◌, ◌+◌, ◌*◌}
 use Rattle.plate.specs.Painted.{BlocksPainted}
 use Rattle.plate.proofs.laying.paint_blocks.Given as goal
 
-abbrev pub invariant-loop-i : goal.invariant-loop-i
-invariant-loop-i g l =
-    (l.at ≡ l.from + l.i * l.w) × BlocksPainted g.C.Kind.cell_of l.from l.i l.w l.tape l.initial.cells l.cells
+abbrev pub invariant-loop-byte : goal.invariant-loop-byte
+invariant-loop-byte g l =
+    (l.at ≡ l.from + l.byte-index * l.w) × BlocksPainted g.C.Kind.cell_of l.from l.byte-index l.w l.tape l.initial.cells l.cells

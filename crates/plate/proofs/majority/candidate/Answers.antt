@@ -2,7 +2,7 @@ use Rattle.std.proofs.Common.{◌≡◌, true, false, take, subst, arith}
 use Rattle.std.proofs.lemmas.List.{take_all}
 use Rattle.plate.proofs.Majorities.{Paired, paired_at, paired_first, paired_like, paired_unlike, read_more, left_over}
 use Rattle.plate.proofs.majority.candidate.Goals as goal
-use Rattle.plate.proofs.majority.candidate.Goals.{then-left-eq0, else-left-eq0+then-same, else-left-eq0+else-same}
+use Rattle.plate.proofs.majority.candidate.Goals.{then-left-eq0, else-left-eq0+then-eq, else-left-eq0+else-eq}
 
 pub loop-x-preserved : goal.loop-x-preserved
 loop-x-preserved g c =
@@ -20,14 +20,14 @@ loop-x-preserved g c =
             (paired_first equal exact cell left seen inv x w.if-left-eq0.true),
         omega (arith, w.left-is),
       )
-      | else-left-eq0+then-same w ↦
-          let like : equal x cell ≡ true = cc (w.same.ensures, w.if-same.true) in (
+      | else-left-eq0+then-eq w ↦
+          let like : equal x cell ≡ true = cc (w.eq.ensures, w.if-eq.true) in (
             paired_at equal _ _ _ _ _ _ w.cell-is w.left-is more
                 (paired_like equal exact cell left seen inv x like),
             omega (arith, w.left-is),
           )
-      | else-left-eq0+else-same w ↦
-          let unlike : equal x cell ≡ false = cc (w.same.ensures, w.if-same.false) in (
+      | else-left-eq0+else-eq w ↦
+          let unlike : equal x cell ≡ false = cc (w.eq.ensures, w.if-eq.false) in (
             paired_at equal _ _ _ _ _ _ w.cell-is w.left-is more
                 (paired_unlike equal exact cell left seen inv x unlike (omega arith)),
             omega (arith, w.left-is),

@@ -1,11 +1,6 @@
-use Rattle.std.proofs.Common.{sym, ap, arith}
-use Rattle.std.proofs.lemmas.List.{nil_from_length}
-use Rattle.plate.specs.ReadCall.{majority_of}
+use Rattle.std.proofs.Common.{sym, arith}
 use Rattle.plate.proofs.Majorities.{majority_some, majority_none}
 use Rattle.plate.proofs.majority.majority.Goals as goal
-
-pub returns-then-plane-eq0 : goal.returns-then-plane-eq0
-returns-then-plane-eq0 g c = sym (ap (majority_of g.C.PartialEq.eq) (nil_from_length c.args.plane.now (omega arith)))
 
 pub returns-then-count_same-plane : goal.returns-then-count_same-plane
 returns-then-count_same-plane g c =

@@ -1,39 +1,50 @@
-use Rattle.std.proofs.Common.{◌≡◌, subst, arith}
-use Rattle.plate.proofs.Hurts.{CountedBelow, counts_low, counted_more, counted_all}
-use Rattle.plate.proofs.PlaneParts.{next_start, ends_within, plane_long}
+use Rattle.std.proofs.Common.{◌≡◌, ◌*◌, ◌++◌, length, drop, ◌∙◌, subst, inl, inr, arith}
+use Rattle.std.proofs.lemmas.List.{length_push}
+use Rattle.plate.proofs.Hurts.{CountedBelow, uncleared, counts_low, counted_more, counted_all}
+use Rattle.plate.proofs.PlaneParts.{area_some, plane_taken, planes_taken, line_taken, line_ends}
 use Rattle.plate.proofs.mapping.write_map.Goals as goal
 
-pub plane_at-requires : goal.plane_at-requires
-plane_at-requires g c =
-    ends_within c.loop-i.start c.loop-i.i c.args.planes c.args.side _ c.loop-i.invariant.0 c.loop-i-test.true c.requires.size
+pub add_hurt-requires-clause-low : goal.add_hurt-requires-clause-low
+add_hurt-requires-clause-low g c k h =
+    let inv = c.loop-plane.invariant in
+    counts_low g.C.PartialEq.eq c.args.shape.planes c.args.shape.side c.args.cells.now _ c.loop-plane.out (length c.loop-plane.yielded)
+    inv.4 (omega (arith, inv.3)) c.in-Some.cell.now k (omega (arith, c.in-Some.ensures.steps.0.1.1, inv.0))
 
-pub add_hurt-requires : goal.add_hurt-requires
-add_hurt-requires g c =
-    let long =
-    plane_long c.args.cells.now c.plane_at.result.now c.loop-i.start c.loop-i.i c.args.planes c.args.side c.plane_at.ensures
-    c.loop-i.invariant.0 c.loop-i-test.true c.requires.size in
-    record {
-      room = omega arith;
-      low = λ k h.
-          counts_low g.C.PartialEq.eq c.args.planes c.args.side c.args.cells.now _ c.loop-i.out c.loop-i.i c.loop-i.invariant.1
-          (omega arith) c.index-cells-lines.result k (omega arith);
-    }
-
-pub loop-i-preserved : goal.loop-i-preserved
-loop-i-preserved g c =
-    let at = c.loop-i.invariant.0 in
-    let long =
-    plane_long c.args.cells.now c.plane_at.result.now c.loop-i.start c.loop-i.i c.args.planes c.args.side c.plane_at.ensures
-    at c.loop-i-test.true c.requires.size in (
-      next_start c.loop-i.start c.loop-i.i c.args.side at,
-      counted_more g.C.PartialEq.eq c.args.planes c.args.side c.args.cells.now _ c.loop-i.out c.loop-i.start c.loop-i.i
-          c.plane_at.result.now c.index-cells-lines.result long at c.plane_at.ensures c.loop-i-test.true c.requires.size
-          c.index-cells-lines.is c.loop-i.invariant.1 _ c.add_hurt.ensures.places c.add_hurt.ensures.rest,
+pub loop-plane-preserved : goal.loop-plane-preserved
+loop-plane-preserved g c =
+    let n = c.args.shape.planes in
+    let side = c.args.shape.side in
+    let cells = c.args.cells.now in
+    let i = length c.loop-plane.yielded in
+    let inv = c.loop-plane.invariant in
+    let steps = c.in-Some.ensures.steps in
+    let long : length c.in-Some.plane.now ≡ side * side = steps.0.1.1 ∙ inv.0 in
+    let plane =
+    plane_taken cells n side c.requires.size (area_some side c.args.shape.sized.0) c.loop-plane.plane-iterator.a.rest.now
+    c.in-Some.plane.now c.next.new.self.a.rest.now i inv.1 steps.0.1.0 long in
+    let cell =
+    line_taken cells n side c.requires.size c.loop-plane.plane-iterator.b.rest.now c.next.new.self.b.rest.now i
+    c.in-Some.cell.now inv.2 steps.1 in
+    rw (length_push c.loop-plane.yielded (c.in-Some.plane, c.in-Some.cell)) (
+      steps.0.0 ∙ inv.0,
+      plane.2,
+      cell.1,
+      omega (arith, plane.0),
+      counted_more g.C.PartialEq.eq n side cells _ c.loop-plane.out i c.in-Some.plane.now c.in-Some.cell.now long plane.1 plane.0
+          c.requires.size cell.0 inv.4 _ c.add_hurt.ensures.places c.add_hurt.ensures.rest,
     )
 
 pub returns : goal.returns
 returns g c =
-    let last : c.loop-i.i ≡ c.args.planes = omega arith in
-    counted_all g.C.PartialEq.eq c.args.planes c.args.side c.args.cells.now c.args.out.now c.clear.new.counts c.loop-i.out
-    (subst (λ n. CountedBelow g.C.PartialEq.eq c.args.planes c.args.side c.args.cells.now c.clear.new.counts n c.loop-i.out) last
-    c.loop-i.invariant.1) c.clear.ensures.rest (omega arith) c.requires.room
+    let n = c.args.shape.planes in
+    let side = c.args.shape.side in
+    let cells = c.args.cells.now in
+    let inv = c.loop-plane.invariant in
+    let all : length c.loop-plane.yielded ≡ n =
+    elim c.in-None.ensures.steps [
+      | inl p ↦ planes_taken cells n side c.requires.size c.loop-plane.plane-iterator.a.rest.now (length c.loop-plane.yielded) inv.1
+          (omega (arith, p.1.1.0, inv.0)) inv.3
+      | inr q ↦ line_ends cells n side c.requires.size c.loop-plane.plane-iterator.b.rest.now (length c.loop-plane.yielded) inv.2 q.1.0 inv.3
+    ] in
+    counted_all g.C.PartialEq.eq n side cells c.args.out.now _ c.loop-plane.out
+    (subst (λ i. CountedBelow g.C.PartialEq.eq n side cells (c.fill.new.self ++ drop c.area-area.result c.args.out.now) i c.loop-plane.out) all inv.4) (λ k h. uncleared c.fill.new.self c.args.out.now c.area-area.result (omega arith) (c.fill.ensures.after (λ y e. e)) k (omega arith)) (omega arith) c.requires.room

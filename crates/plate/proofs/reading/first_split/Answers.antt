@@ -1,31 +1,55 @@
-use Rattle.std.proofs.Common.{arith}
+use Rattle.std.proofs.Common.{◌≡◌, ◌+◌, length, Some, None, sym, ap, ◌∙◌, subst, arith}
+use Rattle.std.proofs.lemmas.List.{length_push}
+use Rattle.hosts.specs.Refusal.{ask_each}
 use Rattle.hosts.proofs.Questions.{asked_more, asked_first}
-use Rattle.plate.specs.ReadCall.{plane_question}
-use Rattle.plate.proofs.PlaneParts.{next_start, ends_within}
+use Rattle.plate.specs.ReadCall.{plane_question, read_refusal}
+use Rattle.plate.proofs.PlaneParts.{area_some, plane_taken, planes_taken}
 use Rattle.plate.proofs.Readings.{whole, split}
 use Rattle.plate.proofs.reading.first_split.Goals as goal
-
-pub plane_at-requires : goal.plane_at-requires
-plane_at-requires g c =
-    ends_within c.loop-i.start c.loop-i.i c.args.planes c.args.side _ c.loop-i.invariant.0 c.loop-i-test.true c.requires.size
-
-pub overflow_add-start : goal.overflow_add-start
-overflow_add-start g c =
-    omega (arith, ends_within c.loop-i.start c.loop-i.i c.args.planes c.args.side _ c.loop-i.invariant.0 c.loop-i-test.true c.requires.size)
-
-pub returns-in_default : goal.returns-in_default
-returns-in_default g c =
-    let equal = g.C.PartialEq.eq in
-    let cells = c.args.cells.now in
-    asked_first (plane_question equal cells c.args.side) c.args.planes c.loop-i.i _ c.loop-i.invariant.1
-    (split equal cells c.args.side c.loop-i.start c.loop-i.i c.loop-i.invariant.0 _ c.plane_at.ensures c.in_default.ensures) c.loop-i-test.true
 
 pub loop-i-preserved : goal.loop-i-preserved
 loop-i-preserved g c =
     let equal = g.C.PartialEq.eq in
+    let n = c.args.shape.planes in
+    let side = c.args.shape.side in
     let cells = c.args.cells.now in
-    let at = c.loop-i.invariant.0 in (
-      next_start c.loop-i.start c.loop-i.i c.args.side at,
-      asked_more (plane_question equal cells c.args.side) c.loop-i.i c.loop-i.invariant.1
-          (whole equal cells c.args.side c.loop-i.start c.loop-i.i at _ c.plane_at.ensures c.in-Some.field-0 c.in-Some.ensures),
+    let i = length c.loop-i.yielded in
+    let inv = c.loop-i.invariant in
+    let steps = c.in-Some.ensures.steps in
+    let plane =
+    plane_taken cells n side c.requires (area_some side c.args.shape.sized.0) c.loop-i.i-iterator.iter.rest.now
+    c.in-Some.plane.now c.next.new.self.iter.rest.now i inv.1 steps.0.1.0 (steps.0.1.1 ∙ inv.0) in
+    rw (length_push c.loop-i.yielded (c.in-Some.i, c.in-Some.plane)) (
+      steps.0.0 ∙ inv.0,
+      plane.2,
+      steps.2 ∙ ap (λ m. m + 1) inv.2,
+      omega (arith, plane.0),
+      asked_more (plane_question equal cells side) i inv.4 (whole equal cells side i c.in-Some.plane.now plane.1 c.majority.result c.majority.ensures c.if-is_none.ensures),
     )
+
+pub returns-then-is_none : goal.returns-then-is_none
+returns-then-is_none g c =
+    let equal = g.C.PartialEq.eq in
+    let n = c.args.shape.planes in
+    let side = c.args.shape.side in
+    let cells = c.args.cells.now in
+    let i = length c.loop-i.yielded in
+    let inv = c.loop-i.invariant in
+    let steps = c.in-Some.ensures.steps in
+    let plane =
+    plane_taken cells n side c.requires (area_some side c.args.shape.sized.0) c.loop-i.i-iterator.iter.rest.now
+    c.in-Some.plane.now c.next.new.self.iter.rest.now i inv.1 steps.0.1.0 (steps.0.1.1 ∙ inv.0) in
+    asked_first (plane_question equal cells side) n i _ inv.4
+    (split equal cells side i c.in-Some.plane.now plane.1 c.majority.result c.majority.ensures c.if-is_none.ensures) plane.0
+    ∙ ap (λ k. Some (read_refusal 16 k)) (sym (steps.1 ∙ inv.2))
+
+pub returns : goal.returns
+returns g c =
+    let n = c.args.shape.planes in
+    let side = c.args.shape.side in
+    let cells = c.args.cells.now in
+    let inv = c.loop-i.invariant in
+    let all =
+    planes_taken cells n side c.requires c.loop-i.i-iterator.iter.rest.now (length c.loop-i.yielded) inv.1
+    (omega (arith, c.in-None.ensures.steps.0.1.0, inv.0)) inv.3 in
+    subst (λ k. ask_each (plane_question g.C.PartialEq.eq cells side) k ≡ None) all inv.4

@@ -1,35 +1,40 @@
-use Rattle.std.proofs.Common.{◌≡◌, set, Some, None, unwrap_or, ap, ◌∙◌, arith}
+use Rattle.std.proofs.Common.{◌≡◌, ◌+◌, ◌++◌, length, drop, unwrap_or, ap, ◌∙◌, subst, arith, rules}
+use Rattle.std.proofs.lemmas.List.{length_push}
 use Rattle.std.specs.Option.{option_map}
-use Rattle.plate.specs.Board.{plane_of}
-use Rattle.plate.specs.ReadCall.{majority_of}
-use Rattle.plate.proofs.PlaneParts.{next_start, ends_within}
+use Rattle.plate.specs.ReadCall.{reading}
+use Rattle.plate.proofs.PlaneParts.{area_some, plane_taken, planes_taken}
 use Rattle.plate.proofs.Readings.{swept_more, reads}
 use Rattle.plate.proofs.reading.write_reading.Goals as goal
-use Rattle.plate.proofs.reading.write_reading.Goals.{in-Some, in-None}
-
-pub plane_at-requires : goal.plane_at-requires
-plane_at-requires g c =
-    ends_within c.loop-i.start c.loop-i.i c.args.planes c.args.side _ c.loop-i.invariant.0 c.loop-i-test.true c.requires.size
-
-pub overflow_add-start : goal.overflow_add-start
-overflow_add-start g c =
-    omega (arith, ends_within c.loop-i.start c.loop-i.i c.args.planes c.args.side _ c.loop-i.invariant.0 c.loop-i-test.true c.requires.size)
 
 pub loop-i-preserved : goal.loop-i-preserved
 loop-i-preserved g c =
-    let equal = g.C.PartialEq.eq in
     let byte = g.C.Kind.byte_of in
+    let n = c.args.shape.planes in
+    let side = c.args.shape.side in
     let cells = c.args.cells.now in
-    let side = c.args.side in
-    let i = c.loop-i.i in
-    let at = c.loop-i.invariant.0 in
-    let read : c.match-majority.out ≡ unwrap_or (option_map byte (majority_of equal (plane_of cells side i))) 0 =
-    elim c.match-majority.branch [
-      | in-Some w ↦
-          w.out-is ∙ w.byte.ensures
-          ∙ reads equal cells side c.loop-i.start i at _ c.plane_at.ensures byte (Some w.in-Some.cell) w.in-Some.ensures
-      | in-None w ↦ w.out-is ∙ reads equal cells side c.loop-i.start i at _ c.plane_at.ensures byte None w.in-None.ensures
-    ] in (
-      next_start c.loop-i.start i side at,
-      ap (λ o. set o i c.match-majority.out) c.loop-i.invariant.1 ∙ swept_more _ c.args.out.now i 0 _ (omega arith) read,
+    let i = length c.loop-i.yielded in
+    let inv = c.loop-i.invariant in
+    let steps = c.in-Some.ensures.steps in
+    let plane =
+    plane_taken cells n side c.requires.size (area_some side c.args.shape.sized.0) c.loop-i.i-iterator.iter.rest.now
+    c.in-Some.plane.now c.next.new.self.iter.rest.now i inv.1 steps.0.1.0 (steps.0.1.1 ∙ inv.0) in
+    let read : c.map_or.result ≡ unwrap_or (option_map byte c.majority.result) 0 = search rules in
+    rw (length_push c.loop-i.yielded (c.in-Some.i, c.in-Some.plane)) (
+      steps.0.0 ∙ inv.0,
+      plane.2,
+      steps.2 ∙ ap (λ m. m + 1) inv.2,
+      omega (arith, plane.0),
+      swept_more _ c.args.out.now c.loop-i.out (length c.loop-i.yielded) c.in-Some.i 0 c.map_or.result inv.4 (steps.1 ∙ inv.2) (omega (arith, plane.0))
+          (read ∙ reads g.C.PartialEq.eq cells side i c.in-Some.plane.now plane.1 c.majority.result c.majority.ensures byte),
     )
+
+pub returns : goal.returns
+returns g c =
+    let n = c.args.shape.planes in
+    let side = c.args.shape.side in
+    let cells = c.args.cells.now in
+    let inv = c.loop-i.invariant in
+    let all =
+    planes_taken cells n side c.requires.size c.loop-i.i-iterator.iter.rest.now (length c.loop-i.yielded) inv.1
+    (omega (arith, c.in-None.ensures.steps.0.1.0, inv.0)) inv.3 in
+    subst (λ k. c.loop-i.out ≡ reading g.C.PartialEq.eq g.C.Kind.byte_of k side cells ++ drop k c.args.out.now) all inv.4

@@ -4,5 +4,6 @@ use Rattle.plate.proofs.sweep.vote_planes.Given as goal
 
 abbrev pub invariant-loop-i : goal.invariant-loop-i
 invariant-loop-i g l =
-    Swept (l.planes * (l.side * l.side)) (l.i * (l.side * l.side)) (PlanesVotes g.C.PartialEq.eq l.planes l.side l.initial.cells)
-    l.initial.cells l.cells
+    let n = l.shape.planes in
+    let side = l.shape.side in
+    Swept (n * (side * side)) (l.i * (side * side)) (PlanesVotes g.C.PartialEq.eq n side l.initial.cells) l.initial.cells l.cells

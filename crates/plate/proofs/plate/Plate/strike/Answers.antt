@@ -11,6 +11,6 @@ returns g c =
     let o = c.try_strike.ensures.outcome in
     record {
       outcome = o;
-      heals = goes_on k met.reflexive met.exact strike_fault (Strike c.args.plane c.args.row c.args.column c.args.byte) c.try_strike.result (board c.args.self.now) (board c.try_strike.new.self) o;
+      heals = goes_on k met.reflexive met.exact strike_fault (Strike c.args.strike.plane c.args.strike.row c.args.strike.column c.args.strike.byte) c.try_strike.result (board c.args.self.now) (board c.try_strike.new.self) o;
       same = c.try_strike.ensures.same;
     }
