@@ -9,9 +9,6 @@ module _ (a : Text) (word rest : List ℕ) (fits : Fits a (ended (word ++ rest))
   both_fit : Fits a (word ++ rest)
   both_fit = fits_front a (word ++ rest) line_end fits
 
-  pub word_fits : Fits a word
-  word_fits = fits_front a word rest both_fit
-
   module _ {b : Text} (word-written : Appends a word b) where
     pub rest_fits : Fits b rest
     rest_fits = fits_more word-written rest both_fit
@@ -19,9 +16,6 @@ module _ (a : Text) (word rest : List ℕ) (fits : Fits a (ended (word ++ rest))
     module _ {c : Text} (rest-written : Appends b rest c) where
       both_written : Appends a (word ++ rest) c
       both_written = appends_more word-written rest both_fit rest-written
-
-      pub end_fits : Fits c line_end
-      end_fits = fits_more both_written line_end fits
 
       pub line_written : {d : Text} → Appends c line_end d → Appends a (ended (word ++ rest)) d
       line_written = appends_more both_written line_end fits

@@ -1,18 +1,17 @@
 -- A page: its parts one after the other.
-use Rattle.std.proofs.Common.{◌≡◌, ℕ, ◌*◌, List, ◌++◌, length, get_or, codes, Option, sym, ap, ◌∙◌, subst}
-use Rattle.std.specs.Option.{option_map}
+use Rattle.std.proofs.Common.{◌≡◌, ℕ, ◌*◌, List, ◌++◌, length, get_or, codes, Result, ap, ◌∙◌}
+use Rattle.std.specs.Borrow.{Bor}
 use Rattle.toom.specs.Shadow.{marks}
 use Rattle.toom.specs.Torus.{count_marks, total}
 use Rattle.plate.specs.declared.laid.Laid.{Laid}
 use Rattle.plate.specs.Board.{side_of}
-use Rattle.plate.specs.ReadCall.{read_refusal}
 use Rattle.reports.specs.declared.text.Text.{Text}
-use Rattle.reports.specs.Page.{page_of}
-use Rattle.reports.specs.Report.{last_line, number_line, rows}
+use Rattle.reports.specs.Page.{page_of, reading_line}
+use Rattle.reports.specs.Report.{number_line, rows}
 use Rattle.reports.specs.Text.{Fits, Appends}
 use Rattle.reports.proofs.Texts.{appends_as, appends_more, fits_front, fits_more}
 
-module _ (l : Laid) (hurts tape : List ℕ) (split : Option ℕ) (map : length hurts ≡ side_of l * side_of l) where
+module _ (l : Laid) (hurts : List ℕ) (reading : Result (Bor (List ℕ)) ℕ) (map : length hurts ≡ side_of l * side_of l) where
   abbrev age_line : List ℕ
   age_line = number_line (codes "age ") l.age
 
@@ -26,7 +25,7 @@ module _ (l : Laid) (hurts tape : List ℕ) (split : Option ℕ) (map : length h
   marked = rows (side_of l) (λ j. get_or hurts j 0) (marks l.shadow)
 
   abbrev last : List ℕ
-  last = last_line (option_map (read_refusal 16) split) tape
+  last = reading_line reading
 
   abbrev marked_on : List ℕ
   marked_on = marked ++ last
@@ -37,16 +36,10 @@ module _ (l : Laid) (hurts tape : List ℕ) (split : Option ℕ) (map : length h
   abbrev shadow_on : List ℕ
   shadow_on = shadow_line (count_marks (side_of l) (marks l.shadow)) ++ hurt_on
 
-  module _ (a : Text) (fits : Fits a (page_of l hurts tape split)) where
-    pub age_fits : Fits a age_line
-    age_fits = fits_front a age_line shadow_on fits
-
+  module _ (a : Text) (fits : Fits a (page_of l hurts reading)) where
     module _ {b : Text} (age-written : Appends a age_line b) (count : ℕ) (count-is : count ≡ count_marks (side_of l) (marks l.shadow)) where
       shadow_on_fits : Fits b shadow_on
       shadow_on_fits = fits_more age-written shadow_on fits
-
-      pub shadow_fits : Fits b (shadow_line count)
-      shadow_fits = subst (λ n. Fits b (shadow_line n)) (sym count-is) (fits_front b (shadow_line _) hurt_on shadow_on_fits)
 
       module _ {c : Text} (shadow-written : Appends b (shadow_line count) c) (sum : ℕ)
           (summed : sum ≡ total (λ j. get_or hurts j 0) (length hurts)) where
@@ -55,9 +48,6 @@ module _ (l : Laid) (hurts tape : List ℕ) (split : Option ℕ) (map : length h
 
         hurt_on_fits : Fits c hurt_on
         hurt_on_fits = fits_more (appends_as (ap shadow_line count-is) shadow-written) hurt_on shadow_on_fits
-
-        pub hurt_fits : Fits c (hurt_line sum)
-        hurt_fits = subst (λ n. Fits c (hurt_line n)) (sym sum_is) (fits_front c (hurt_line _) marked_on hurt_on_fits)
 
         module _ {d : Text} (hurt-written : Appends c (hurt_line sum) d) where
           marked_on_fits : Fits d marked_on
@@ -70,7 +60,7 @@ module _ (l : Laid) (hurts tape : List ℕ) (split : Option ℕ) (map : length h
             pub last_fits : Fits e last
             last_fits = fits_more rows_written last marked_on_fits
 
-            pub page_written : {f : Text} → Appends e last f → Appends a (page_of l hurts tape split) f
+            pub page_written : {f : Text} → Appends e last f → Appends a (page_of l hurts reading) f
             page_written last_written =
                 appends_more age-written shadow_on fits
                 (appends_more (appends_as (ap shadow_line count-is) shadow-written) hurt_on shadow_on_fits

@@ -6,7 +6,7 @@ use Rattle.toom.proofs.RowWords.{total_same}
 use Rattle.plate.proofs.Layings.{place_below}
 use Rattle.reports.specs.Report.{ended, number_line, page, place_mark, row_line}
 
-map_same : (f g : ℕ → ℕ) (a n : ℕ) → ((k : ℕ) → k < a + n → f k ≡ g k) → map f (range_with_len a n) ≡ map g (range_with_len a n)
+pub map_same : (f g : ℕ → ℕ) (a n : ℕ) → ((k : ℕ) → k < a + n → f k ≡ g k) → map f (range_with_len a n) ≡ map g (range_with_len a n)
 map_same f g a zero same = refl
 map_same f g a (suc n) same = ap₂ ◌∷◌ (same a (omega arith)) (map_same f g (a + 1) n (λ k h. same k (omega arith)))
 

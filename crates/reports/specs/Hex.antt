@@ -1,10 +1,7 @@
 -- Bytes in hexadecimal.
-use Rattle.std.specs.Prelude.{ℕ, ◌+◌, ◌/◌, ◌%◌, cond, List, [], ◌∷◌, nat_lt}
+use Rattle.std.specs.Prelude.{ℕ, ◌/◌, ◌%◌, List, [], ◌∷◌}
+use Rattle.std.specs.Char.{digit_char}
 
--- `0` to `9` and `a` to `f`.
-abbrev pub digit : ℕ → ℕ
-digit n = cond (nat_lt n 10) (48 + n) (87 + n)
-
--- A byte as two digits, the higher first.
+-- A byte as two digits, `0` to `9` and `a` to `f`, the higher first.
 abbrev pub pair : ℕ → List ℕ
-pair byte = digit (byte / 16) ∷ digit (byte % 16) ∷ []
+pair byte = digit_char (byte / 16) ∷ digit_char (byte % 16) ∷ []

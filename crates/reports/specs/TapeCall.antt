@@ -1,6 +1,6 @@
 -- The reading as a report takes it: a plane that has no majority is no fault of the report, but what it tells.
-use Rattle.std.specs.Prelude.{◌≡◌, ℕ, List, length, Some, None, Option, Result, MatchResult}
-use Rattle.std.specs.Option.{option_map}
+use Rattle.std.specs.Prelude.{◌≡◌, ℕ, List, length, Some, None, Ok, Err, Result, MatchResult}
+use Rattle.std.specs.Borrow.{Bor}
 use Rattle.hosts.specs.Refusal.{Refusal}
 use Rattle.plate.specs.Board.{Board}
 use Rattle.plate.specs.Members.{Members}
@@ -13,11 +13,11 @@ abbrev pub tape_fault : ReportFault → Refusal
 tape_fault Bare = read_refusal 6 0
 tape_fault Output = read_refusal 15 0
 
--- The first plane that has no majority, or else the reading in the tape.
-pub record TapeRead {C : Type 0} (k : Members C) (b : Board C) (split : Option ℕ) (before after : List ℕ) : Type 0 where
-  pub asked : read_questions k.equal b (length before) ≡ option_map (read_refusal 16) split
-  pub tape : split ≡ None → Reads k.equal k.byte b before after
+-- The reading in the tape, which was `before`, or else the first plane that has no majority.
+abbrev pub TapeRead : {C : Type 0} → Members C → Board C → (before : List ℕ) → Result (Bor (List ℕ)) ℕ → Type 0
+TapeRead k b before (Ok tape) = (read_questions k.equal b (length before) ≡ None) × Reads k.equal k.byte b before tape.now
+TapeRead k b before (Err plane) = read_questions k.equal b (length before) ≡ Some (read_refusal 16 plane)
 
-abbrev pub TapeAnswers : {C : Type 0} → Members C → Result (Option ℕ) ReportFault → Board C → (before after : List ℕ) → Type 0
-TapeAnswers k r b before after =
-    MatchResult r (λ split. TapeRead k b split before after) (λ e. read_questions k.equal b (length before) ≡ Some (tape_fault e))
+abbrev pub TapeAnswers : {C : Type 0} → Members C → Result (Result (Bor (List ℕ)) ℕ) ReportFault → Board C → (before : List ℕ) → Type 0
+TapeAnswers k r b before =
+    MatchResult r (TapeRead k b before) (λ e. read_questions k.equal b (length before) ≡ Some (tape_fault e))

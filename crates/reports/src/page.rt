@@ -1,12 +1,10 @@
 // The lines of a report.
 ghost use Rattle.std.specs.Prelude.{◌≡◌, ◌*◌, ◌<◌, ◌≤◌, length, slice_index};
-ghost use Rattle.std.specs.Option.{option_map};
 ghost use Rattle.toom.specs.Shadow.{marks};
 ghost use Rattle.toom.specs.Torus.{total};
 ghost use Rattle.plate.specs.Board.{side_of};
-ghost use Rattle.plate.specs.ReadCall.{read_refusal};
-ghost use Rattle.reports.specs.Page.{page_of};
-ghost use Rattle.reports.specs.Report.{number_line, place_mark, row_line, rows, tape_line, last_line};
+ghost use Rattle.reports.specs.Page.{marked_line, page_of, reading_line};
+ghost use Rattle.reports.specs.Report.{number_line, place_mark, rows, tape_line};
 ghost use Rattle.reports.specs.Text.{Fits, Appends};
 
 use crate::text::Text;
@@ -34,17 +32,16 @@ fn place_mark(hurt: u16, shadowed: bool) -> u8
     }
 }
 
+// The marks of a row, whose part of the map this is.
 fn row_line(text: &mut Text<'_>, hurts: &[u16], shadow: &Shadow, row: usize)
-    requires map { length hurts.now ≡ shadow.now.side * shadow.now.side }
+    requires map { length hurts.now ≡ shadow.now.side }
     requires row { row < shadow.now.side }
-    requires room { Fits text.old (row_line shadow.now.side (λ j. slice_index hurts.now j) (marks shadow.now) row) }
-    ensures { Appends text.old (row_line shadow.now.side (λ j. slice_index hurts.now j) (marks shadow.now) row) text.new }
+    requires room { Fits text.old (marked_line hurts.now shadow.now row) }
+    ensures { Appends text.old (marked_line hurts.now shadow.now row) text.new }
 {
-    let side = shadow.side();
-    let start = row * side;
-    for column in 0..side {
+    for (column, hurt) in hurts.iter().enumerate() {
         let shadowed = shadow.holds(row, column).unwrap_or(false);
-        text.push(place_mark(hurts[start + column], shadowed));
+        text.push(place_mark(*hurt, shadowed));
     }
     text.end_line();
 }
@@ -55,8 +52,8 @@ fn rows(text: &mut Text<'_>, hurts: &[u16], shadow: &Shadow)
     requires room { Fits text.old (rows shadow.now.side (λ j. slice_index hurts.now j) (marks shadow.now)) }
     ensures { Appends text.old (rows shadow.now.side (λ j. slice_index hurts.now j) (marks shadow.now)) text.new }
 {
-    for row in 0..shadow.side() {
-        row_line(text, hurts, shadow, row);
+    for (row, row_hurts) in hurts.chunks_exact(shadow.side()).enumerate() {
+        row_line(text, row_hurts, shadow, row);
     }
 }
 
@@ -72,13 +69,13 @@ fn tape_line(text: &mut Text<'_>, tape: &[u8])
 }
 
 // The reading, or the first plane that has no majority.
-fn last_line(text: &mut Text<'_>, tape: &[u8], split: Option<usize>)
-    requires { Fits text.old (last_line (option_map (read_refusal 16) split) tape.now) }
-    ensures { Appends text.old (last_line (option_map (read_refusal 16) split) tape.now) text.new }
+fn last_line(text: &mut Text<'_>, reading: Result<&[u8], usize>)
+    requires { Fits text.old (reading_line reading) }
+    ensures { Appends text.old (reading_line reading.entry) text.new }
 {
-    match split {
-        None => tape_line(text, tape),
-        Some(plane) => number_line(text, "no majority ", plane),
+    match reading {
+        Ok(tape) => tape_line(text, tape),
+        Err(plane) => number_line(text, "no majority ", plane),
     }
 }
 
@@ -87,28 +84,18 @@ fn sum(hurts: &[u16]) -> usize
     requires { length hurts.now ≤ 4096 }
     ensures { result ≡ total (λ j. slice_index hurts.now j) (length hurts.now) }
 {
-    let mut sum = 0;
-    for hurt in hurts {
-        sum += usize::from(*hurt);
-    }
-    sum
+    hurts.iter().map(|hurt| usize::from(*hurt)).sum()
 }
 
 // The whole report of a plate: what it keeps beside its cells, its map, and its reading or the first plane that has no majority.
-pub(crate) fn page(
-    text: &mut Text<'_>,
-    laid: &Laid,
-    hurts: &[u16],
-    tape: &[u8],
-    split: Option<usize>,
-)
+pub(crate) fn page(text: &mut Text<'_>, laid: &Laid, hurts: &[u16], reading: Result<&[u8], usize>)
     requires map { length hurts.now ≡ side_of laid.now * side_of laid.now }
-    requires room { Fits text.old (page_of laid.now hurts.now tape.now split) }
-    ensures { Appends text.old (page_of laid.now hurts.now tape.now split) text.new }
+    requires room { Fits text.old (page_of laid.now hurts.now reading) }
+    ensures { Appends text.old (page_of laid.now hurts.now reading.entry) text.new }
 {
     number_line(text, "age ", laid.age as usize);
     number_line(text, "shadow ", laid.shadow.count());
     number_line(text, "hurt ", sum(hurts));
     rows(text, hurts, &laid.shadow);
-    last_line(text, tape, split);
+    last_line(text, reading);
 }

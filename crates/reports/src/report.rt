@@ -34,26 +34,23 @@ fn try_report<C: Kind>(plate: &Plate<'_, C>, out: &mut [u8]) -> Result<usize, Re
     let mut hurts = [0; MAX_SIDE * MAX_SIDE];
     plate.map(&mut hurts)?;
     let mut tape = [0; MAX_PLANES];
-    let split = read_tape(plate, &mut tape)?;
+    let reading = read_tape(plate, &mut tape[..laid.planes])?;
     let side = laid.shadow.side();
     let mut text = Text::new(out);
-    page(
-        &mut text,
-        &laid,
-        &hurts[..side * side],
-        &tape[..laid.planes],
-        split,
-    );
+    page(&mut text, &laid, &hurts[..side * side], reading);
     Ok(text.len())
 }
 
-// Reads the plate. Answers the first plane that has no majority, if there is one: then the tape is not written.
-fn read_tape<C: Kind>(plate: &Plate<'_, C>, tape: &mut [u8]) -> Result<Option<usize>, ReportFault>
-    ensures { TapeAnswers (members C.eq C.byte_of C.cell_of) result (board plate.now) tape.old tape.new }
+// The reading, in `tape`, or the first plane that has no majority: that is no fault of a report, so no `From` says what becomes of the read's faults.
+fn read_tape<'a, C: Kind>(
+    plate: &Plate<'_, C>,
+    tape: &'a mut [u8],
+) -> Result<Result<&'a [u8], usize>, ReportFault>
+    ensures { TapeAnswers (members C.eq C.byte_of C.cell_of) result (board plate.now) tape.old }
 {
     match plate.read(tape) {
-        Ok(()) => Ok(None),
-        Err(ReadFault::Majority { plane }) => Ok(Some(plane)),
+        Ok(()) => Ok(Ok(tape)),
+        Err(ReadFault::Majority { plane }) => Ok(Err(plane)),
         Err(ReadFault::Bare) => Err(ReportFault::Bare),
         Err(ReadFault::Output) => Err(ReportFault::Output),
     }

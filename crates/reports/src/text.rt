@@ -1,6 +1,7 @@
 // Text that is written into its caller's bytes, from their start on.
 ghost use Rattle.std.specs.Prelude.{◌≡◌, ◌<◌, [], ◌∷◌, decimal};
-ghost use Rattle.reports.specs.Hex.{digit, pair};
+ghost use Rattle.std.specs.Char.{digit_char};
+ghost use Rattle.reports.specs.Hex.{pair};
 ghost use Rattle.reports.specs.Text.{Fits, Appends, line_end};
 
 #[derive(Drop)]
@@ -74,7 +75,7 @@ impl<'a> Text<'a> {
 
 fn hex_digit(n: u8) -> u8
     requires { n < 16 }
-    ensures { result ≡ digit n }
+    ensures { result ≡ digit_char n }
 {
-    if n < 10 { b'0' + n } else { b'a' + (n - 10) }
+    char::from_digit(u32::from(n), 16).unwrap() as u8
 }

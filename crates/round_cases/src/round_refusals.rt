@@ -52,7 +52,7 @@ fn refuse<C: Kind, H: Entry<C>>(
         "length {length}, edits {edits:?}"
     );
     for found in memory.iter() {
-        assert!(rt; found.same(cell), "a cell was written");
+        assert!(rt; *found == cell, "a cell was written");
     }
     check_untouched(rt, out);
     Ok(())

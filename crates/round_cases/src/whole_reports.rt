@@ -1,6 +1,7 @@
 // Reports of plates: whole, hurt, with no majority, the longest, and what is refused.
 use crate::outputs::{FILL, ROOM, check_part, check_text, check_untouched};
 use plate::plate::Plate;
+use plate::strike::Strike;
 use reports::fault::ReportFault;
 use reports::report::report;
 use std::process::Abort;
@@ -33,7 +34,7 @@ fn refuse<C: Kind>(rt: &impl Abort, plate: &Plate<'_, C>, out: &mut [u8], fault:
 fn split<C: Kind>(plate: &mut Plate<'_, C>, plane: usize, byte: u8) -> Result<(), Fail> {
     for row in 0..2usize {
         for column in 0..4usize {
-            plate.strike(plane, row, column, byte)?;
+            plate.strike(Strike { plane, row, column, byte })?;
         }
     }
     Ok(())
@@ -47,7 +48,7 @@ fn hurt<C: Kind>(plate: &mut Plate<'_, C>, tape: [u8; 3], wrong: [u8; 3]) -> Res
         (1, 2, 3, tape[1]),
         (1, 3, 0, wrong[1]),
     ] {
-        plate.strike(plane, row, column, byte)?;
+        plate.strike(Strike { plane, row, column, byte })?;
     }
     Ok(())
 }
@@ -129,7 +130,7 @@ fn strike_all<C: Kind>(plate: &mut Plate<'_, C>, byte: u8) -> Result<(), Fail> {
     for plane in 0..4096usize {
         for row in 0..64usize {
             for column in 0..64usize {
-                plate.strike(plane, row, column, byte)?;
+                plate.strike(Strike { plane, row, column, byte })?;
             }
         }
     }

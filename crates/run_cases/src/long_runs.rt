@@ -78,7 +78,7 @@ fn long<C: Kind, H: Host<C>, const N: usize>(
     plate.lay(N, side, &bytes)?;
     let mut ring = tape;
     for lap in 0..4usize {
-        let cell = if ring[lap].same(wrong[0]) {
+        let cell = if ring[lap] == wrong[0] {
             wrong[1]
         } else {
             wrong[0]

@@ -1,7 +1,7 @@
 // What a run refuses, in which order, and that a refusal leaves the plate as it was.
 use crate::Unbuilt;
 use crate::look::{CELLS, PLANES, SIDE, look_at};
-use crate::records::{BEAVER, script, strike};
+use crate::records::{BEAVER, script, strike, wound};
 use hosts::elementary::Elementary;
 use hosts::host::Host;
 use hosts::machine::Machine;
@@ -29,7 +29,7 @@ const GOOD: [u64; 3] = [
 fn wear<C: Kind, H: Host<C>>(plate: &mut Plate<'_, C>, host: &H, tape: &[u8]) -> Result<(), Fail> {
     plate.lay(PLANES, SIDE, tape)?;
     plate.beat(host)?;
-    plate.strike(1, 2, 3, 0)?;
+    plate.strike(wound(1, 2, 3, 0))?;
     Ok(())
 }
 

@@ -7,10 +7,10 @@ use runs::script::Script;
 fn fields(record: Record) -> (u32, usize, usize, usize, u8, u16) {
     (
         record.number,
-        record.plane,
-        record.row,
-        record.column,
-        record.byte,
+        record.strike.plane,
+        record.strike.row,
+        record.strike.column,
+        record.strike.byte,
         record.spare,
     )
 }

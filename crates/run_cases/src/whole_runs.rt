@@ -1,7 +1,7 @@
 // What a run does: its strikes and beats one by one, the order of records, the age, and two halves.
 use crate::Unbuilt;
 use crate::look::{CELLS, Look, PLANES, SIDE, look_at};
-use crate::records::{BEAVER, script, strike};
+use crate::records::{BEAVER, script, strike, wound};
 use hosts::elementary::Elementary;
 use hosts::host::Host;
 use hosts::machine::Machine;
@@ -20,7 +20,7 @@ const RULE: Elementary = Elementary { rule: 110 };
 fn check_same<C: Kind>(rt: &impl Abort, left: &[C], right: &[C]) {
     assert_eq!(rt; left.len(), right.len());
     for (index, (x, y)) in left.iter().zip(right).enumerate() {
-        assert!(rt; x.same(*y), "cell {index}");
+        assert!(rt; x == y, "cell {index}");
     }
 }
 
@@ -51,14 +51,14 @@ fn by_hand<C: Kind, H: Host<C>>(
 ) -> Result<Look, Fail> {
     let mut plate = Plate::new(cells);
     plate.lay(PLANES, SIDE, tape)?;
-    plate.strike(0, 1, 2, byte)?;
+    plate.strike(wound(0, 1, 2, byte))?;
     plate.beat(host)?;
     plate.beat(host)?;
-    plate.strike(1, 3, 0, byte)?;
+    plate.strike(wound(1, 3, 0, byte))?;
     for _ in 0..4 {
         plate.beat(host)?;
     }
-    plate.strike(2, 0, 3, byte)?;
+    plate.strike(wound(2, 0, 3, byte))?;
     Ok(look_at(&plate))
 }
 
@@ -210,9 +210,9 @@ fn no_beats<C: Kind, H: Host<C>>(
         strike(0, 2, 3, 3, 0),
     ]);
     run(&mut plate, host, &script, 0)?;
-    other.strike(0, 0, 0, 0)?;
-    other.strike(1, 0, 0, 1)?;
-    other.strike(2, 3, 3, 0)?;
+    other.strike(wound(0, 0, 0, 0))?;
+    other.strike(wound(1, 0, 0, 1))?;
+    other.strike(wound(2, 3, 3, 0))?;
     let seen = look_at(&plate);
     assert_eq!(rt; seen, look_at(&other));
     assert_eq!(rt; seen.age, Some(1));

@@ -32,11 +32,11 @@ module _ {C : Type 0} (named : ℕ → Option C) (n side age beats : ℕ) (scrip
     passed_order = grind (arith, nat_tests, asked)
 
     moved_asked : option_map (moved j)
-        (place_questions named n side (record_in script j).plane (record_in script j).row (record_in script j).column (record_in script j).byte) ≡ None
+        (place_questions named n side (record_in script j).strike.plane (record_in script j).strike.row (record_in script j).strike.column (record_in script j).strike.byte) ≡ None
     moved_asked = grind (arith, nat_tests, asked)
 
     pub passed_strike :
-        place_questions named n side (record_in script j).plane (record_in script j).row (record_in script j).column (record_in script j).byte ≡ None
+        place_questions named n side (record_in script j).strike.plane (record_in script j).strike.row (record_in script j).strike.column (record_in script j).strike.byte ≡ None
     passed_strike = mapped_none (moved j) _ moved_asked
 
   -- No record has a higher number than the one before the next.

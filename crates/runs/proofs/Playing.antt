@@ -1,5 +1,7 @@
 -- A run whose questions have passed, record by record: what it has led to, and that no strike and no beat of it is refused.
-use Rattle.std.proofs.Common.{◌≡◌, ℕ, ◌+◌, ◌-◌, ◌<◌, ◌≤◌, true, List, Some, None, Ok, Err, Option, Result, sym, refl, ap, ◌∙◌, subst, arith, MatchResult}
+use Rattle.std.proofs.Common.{◌≡◌, ℕ, ◌+◌, ◌-◌, ◌<◌, ◌≤◌, true, false, List, Some, None, Ok, Err, Option, Result, is_ok, sym, refl, ap, ◌∙◌, subst, arith, MatchResult}
+use Rattle.std.specs.Iterator.Adapters.{enumerate_steps}
+use Rattle.std.specs.declared.iter.Enumerate.{Enumerate}
 use Rattle.plate.specs.declared.fault.StrikeFault.{StrikeFault}
 use Rattle.plate.specs.declared.laid.Laid.{Laid}
 use Rattle.plate.specs.Board.{Board, side_of, standing}
@@ -9,15 +11,16 @@ use Rattle.plate.specs.Members.{Members}
 use Rattle.plate.specs.Plates.{Answers}
 use Rattle.plate.specs.StrikeCall.{strike_questions}
 use Rattle.runs.specs.declared.fault.RunFault.{RunFault}
-use Rattle.runs.specs.declared.place.Placed.{Placed}
 use Rattle.runs.specs.declared.record.Record.{Record}
+use Rattle.runs.specs.declared.script.Script.{Script}
 use Rattle.runs.specs.Leads.{LaidAs, Leads, Older, YoungFor, beats_alone}
-use Rattle.runs.specs.Place.{with_place}
 use Rattle.runs.specs.RunCall.{calls_of_run, calls_upto, number_before, run_questions, run_questions_of, shape_questions, strike_of}
-use Rattle.runs.specs.Script.{records_in, record_in}
+use Rattle.runs.specs.Script.{Yields, records_in, record_in}
 use Rattle.runs.proofs.Beating.{not_both, older_0}
+use Rattle.runs.proofs.Checked.{number_next}
 use Rattle.runs.proofs.Leading.{leads_on, leads_one}
 use Rattle.runs.proofs.Passed.{passed_age, passed_before, passed_last, passed_number, passed_order, passed_strike}
+use Rattle.runs.proofs.Scripts.{StandsIn, has_record, reads_record, stands_last, stands_next}
 use Rattle.runs.proofs.Shapes.{strike_passes, struck_on}
 use Rattle.runs.proofs.Timelines.{calls_beaten, calls_struck}
 
@@ -26,94 +29,142 @@ pub record Played {C : Type 0} (k : Members C) (host : C → C → C → C) (scr
   pub leads : Leads k (calls_upto host script m done) start b
   pub older : Older done start b
 
+-- No question failed; the records before the reader's have struck, and as many beats have passed as the last of them says.
+pub record Underway {C : Type 0} (k : Members C) (host : C → C → C → C) (script : List ℕ) (beats : ℕ) (start : Board C) (e : Enumerate Script)
+    (done : ℕ) (b : Board C) : Type 0 where
+  pub good : run_questions k.named start beats script ≡ None
+  pub stands : StandsIn script e
+  pub number : done ≡ number_before script e.count
+  pub played : Played k host script start e.count done b
+
 asked_laid : {C : Type 0} (named : ℕ → Option C) (o : Option Laid) (beats : ℕ) (script : List ℕ) → run_questions_of named o beats script ≡ None
     → (l : Laid) × (o ≡ Some l) × (shape_questions named l.planes (side_of l) l.age beats script ≡ None)
 asked_laid named None beats script good = let z : ◌≡◌ {A = ℕ} 0 1 = cc in absurd (omega arith)
 asked_laid named (Some l) beats script good = (l, refl, good)
 
-module _ {C : Type 0} (k : Members C) (host : C → C → C → C) (script : List ℕ) (beats : ℕ) (start : Board C)
-    (good : run_questions k.named start beats script ≡ None) where
+pub underway_first : {C : Type 0} (k : Members C) (host : C → C → C → C) (script : List ℕ) (beats : ℕ) (start : Board C) (e : Enumerate Script)
+    → run_questions k.named start beats script ≡ None → e.iter.bytes.now ≡ script → e.iter.index ≡ 0 → e.count ≡ 0
+    → Underway k host script beats start e 0 start
+underway_first k host script beats start e good bytes index count = record {
+  good = good;
+  stands = record { bytes = bytes; index = index ∙ sym count; within = omega arith };
+  number = ap (number_before script) (sym count);
+  played = subst (λ m. Played k host script start m 0 start) (sym count) record { leads = refl; older = older_0 start };
+}
+
+-- A strike whose questions pass is accepted.
+accepted : {C X : Type 0} (k : Members C) (r : Record) (b b' : Board C) (answer : Result X StrikeFault) → Answers k strike_fault (strike_of r) answer b b'
+    → strike_questions k.named b r.strike.plane r.strike.row r.strike.column r.strike.byte ≡ None → Outcome k (strike_of r) true b b'
+accepted k r b b' (Ok x) outcome fits = outcome
+accepted k r b b' (Err e) outcome fits = absurd (not_both _ (strike_fault e) fits outcome.0)
+
+unrefused : {C X : Type 0} (k : Members C) (r : Record) (b b' : Board C) (answer : Result X StrikeFault) → Answers k strike_fault (strike_of r) answer b b'
+    → strike_questions k.named b r.strike.plane r.strike.row r.strike.column r.strike.byte ≡ None → false ≡ is_ok answer → ⊥
+unrefused k r b b' (Ok x) outcome fits is = let z : ◌≡◌ {A = ℕ} 0 1 = cc in absurd (omega arith)
+unrefused k r b b' (Err e) outcome fits is = not_both _ (strike_fault e) fits outcome.0
+
+module _ {C : Type 0} {k : Members C} {host : C → C → C → C} {script : List ℕ} {beats : ℕ} {start : Board C} {e : Enumerate Script} {done : ℕ}
+    {b : Board C} (u : Underway k host script beats start e done b) where
   asked : (l : Laid) × (standing start ≡ Some l) × (shape_questions k.named l.planes (side_of l) l.age beats script ≡ None)
-  asked = asked_laid k.named (standing start) beats script good
+  asked = asked_laid k.named (standing start) beats script u.good
 
   abbrev laid_start : LaidAs asked.0.planes (side_of asked.0) asked.0.age start
   laid_start = record { kept = asked.0; stands = asked.1; planes = refl; sides = refl; ages = refl }
 
-  pub played_none : Played k host script start 0 0 start
-  played_none = record { leads = refl; older = older_0 start }
-
-  -- The number of the next record is between the beats done and the beats to do.
-  module _ (m done : ℕ) (within : m < records_in script) (at : done ≡ number_before script m) (r : Record) (is : r ≡ record_in script m) where
-    pub number_from : done ≤ r.number
-    number_from = rw (at, is) (passed_order k.named _ _ _ beats script asked.2 m within)
-
-    pub number_upto : r.number ≤ beats
-    number_upto = rw is (passed_number k.named _ _ _ beats script asked.2 m within)
-
-  pub done_upto : (m done : ℕ) → m ≤ records_in script → done ≡ number_before script m → done ≤ beats
-  done_upto m done few at = rw at (passed_last k.named _ _ _ beats script asked.2 m few)
-
   -- There is time for beats up to any number that is not past the run's.
-  pub young_enough : (m done to : ℕ) (b : Board C) → Played k host script start m done b → done ≤ to → to ≤ beats → YoungFor (to - done) b
-  young_enough m done to b played from upto = record {
+  young_enough : (to : ℕ) → done ≤ to → to ≤ beats → YoungFor (to - done) b
+  young_enough to from upto = record {
     n = _;
     side = _;
     age = asked.0.age + done;
-    laid = played.older _ _ _ laid_start;
+    laid = u.played.older _ _ _ laid_start;
     young = omega (arith, passed_age k.named _ _ _ beats script asked.2);
   }
 
-  module _ (m done : ℕ) (few : m ≤ records_in script) (at : done ≡ number_before script m) where
-    pub played_beats : (to : ℕ) (b b' : Board C) → done ≤ to → Played k host script start m done b → Leads k (beats_alone host (to - done)) b b'
-        → Older (to - done) b b' → Played k host script start m to b'
-    played_beats to b b' from played leads older =
-        let sum : done + (to - done) ≡ to = omega arith in
-        let calls = calls_beaten script host m done (to - done)
-        (λ j h. subst (λ d. (record_in script j).number ≤ d) (sym at) (passed_before k.named _ _ _ beats script asked.2 m few j h)) in
-        record {
-          leads =
-              subst (λ c. Leads k c start b') (sym calls ∙ ap (calls_upto host script m) sum)
-              (leads_on k (calls_upto host script m done) (beats_alone host (to - done)) start b b' played.leads leads);
-          older = λ n side age laid.
-              let ages : age + done + (to - done) ≡ age + to = omega arith in
-              subst (λ a. LaidAs n side a b') ages (older n side (age + done) (played.older n side age laid));
-        }
+  played_beats : (to : ℕ) (b' : Board C) → done ≤ to → Leads k (beats_alone host (to - done)) b b' → Older (to - done) b b'
+      → Played k host script start e.count to b'
+  played_beats to b' from leads older =
+      let sum : done + (to - done) ≡ to = omega arith in
+      let calls = calls_beaten script host e.count done (to - done)
+      (λ j h. subst (λ d. (record_in script j).number ≤ d) (sym u.number) (passed_before k.named _ _ _ beats script asked.2 e.count u.stands.within j h)) in
+      record {
+        leads =
+            subst (λ c. Leads k c start b') (sym calls ∙ ap (calls_upto host script e.count) sum)
+            (leads_on k (calls_upto host script e.count done) (beats_alone host (to - done)) start b b' u.played.leads leads);
+        older = λ n side age laid.
+            let ages : age + done + (to - done) ≡ age + to = omega arith in
+            subst (λ a. LaidAs n side a b') ages (older n side (age + done) (u.played.older n side age laid));
+      }
 
-    -- After the last record the rest of the beats.
-    pub all_played : (b b' : Board C) → done ≤ beats → Played k host script start m done b → m ≡ records_in script
-        → {X : Type 0} (answer : Result X RunFault) → MatchResult answer (λ _. Leads k (beats_alone host (beats - done)) b b') (λ _. ⊥)
-        → Older (beats - done) b b' → MatchResult answer (λ _. Leads k (calls_of_run host script beats) start b') (λ _. ⊥)
-    all_played b b' from played last (Ok x) leads older =
-        subst (λ i. Leads k (calls_upto host script i beats) start b') last (played_beats beats b b' from played leads older).leads
-    all_played b b' from played last (Err e) never older = never
+  pub done_upto : done ≤ beats
+  done_upto = rw u.number (passed_last k.named _ _ _ beats script asked.2 e.count u.stands.within)
 
-  module _ (m : ℕ) (within : m < records_in script) (r : Record) (is : r ≡ record_in script m) (b b' : Board C)
-      (played : Played k host script start m r.number b) where
-    strike_fits : strike_questions k.named b r.plane r.row r.column r.byte ≡ None
-    strike_fits =
-        strike_passes _ _ _ b b' (played.older _ _ _ laid_start) k.named r.plane r.row r.column r.byte
-        (rw is (passed_strike k.named _ _ _ beats script asked.2 m within))
+  -- After the last record the rest of the beats.
+  pub young_rest : YoungFor (beats - done) b
+  young_rest = young_enough beats done_upto (omega arith)
 
-    pub played_strike : Outcome k (strike_of r) true b b' → Played k host script start (m + 1) r.number b'
-    played_strike outcome =
-        let struck : calls_upto host script (m + 1) r.number ≡ _ = calls_struck script host m r.number (sym (ap (λ x. x.number) is)) in
-        record {
-          leads =
-              subst (λ c. Leads k c start b') (sym struck)
-              (leads_one k (calls_upto host script m r.number) (strike_of (record_in script m)) start b b' played.leads
-              (subst (λ x. Outcome k (strike_of x) true b b') is outcome));
-          older = λ n side age laid.
-              let ages : age + r.number + 0 ≡ age + r.number = omega arith in
-              subst (λ a. LaidAs n side a b') ages
-              (struck_on n side (age + r.number) b b' (played.older n side age laid) k.named r.plane r.row r.column r.byte outcome.1);
-        }
+  pub all_played : (t : Enumerate Script) → Yields e.iter None t.iter → (b' : Board C) {X : Type 0} (answer : Result X RunFault)
+      → MatchResult answer (λ _. Leads k (beats_alone host (beats - done)) b b') (λ _. ⊥) → Older (beats - done) b b'
+      → MatchResult answer (λ _. Leads k (calls_of_run host script beats) start b') (λ _. ⊥)
+  all_played t none b' (Ok x) leads older =
+      subst (λ i. Leads k (calls_upto host script i beats) start b') (stands_last script e t u.stands none)
+      (played_beats beats b' done_upto leads older).leads
+  all_played t none b' (Err f) never older = never
 
-    pub strike_accepted : {X : Type 0} (answer : Result X StrikeFault) → Answers k strike_fault (strike_of r) answer b b'
-        → Outcome k (strike_of r) true b b'
-    strike_accepted (Ok x) outcome = outcome
-    strike_accepted (Err e) outcome = absurd (not_both (strike_questions k.named b r.plane r.row r.column r.byte) (strike_fault e) strike_fits outcome.0)
+  -- The reader gives record r.
+  module _ (t : Enumerate Script) (i : ℕ) (r : Record) (step : enumerate_steps Yields e (Some (i, r)) t) where
+    within : e.count < records_in script
+    within = has_record script e t u.stands r step.0
 
-    pub strike_unrefused : {X : Type 0} (answer : Result X StrikeFault) (i : ℕ) (e : Placed StrikeFault) → Answers k strike_fault (strike_of r) answer b b'
-        → Err e ≡ with_place i answer → ⊥
-    strike_unrefused (Ok x) i e outcome is = let z : ◌≡◌ {A = ℕ} 0 1 = cc in absurd (omega arith)
-    strike_unrefused (Err f) i e outcome is = not_both (strike_questions k.named b r.plane r.row r.column r.byte) (strike_fault f) strike_fits outcome.0
+    is : r ≡ record_in script e.count
+    is = reads_record script e t u.stands r step.0
+
+    pub number_from : done ≤ r.number
+    number_from = rw (u.number, is) (passed_order k.named _ _ _ beats script asked.2 e.count within)
+
+    number_upto : r.number ≤ beats
+    number_upto = rw is (passed_number k.named _ _ _ beats script asked.2 e.count within)
+
+    pub young_beats : YoungFor (r.number - done) b
+    young_beats = young_enough r.number number_from number_upto
+
+    -- The beats up to it, and then its strike.
+    module _ (b₁ b₂ : Board C) (leads : Leads k (beats_alone host (r.number - done)) b b₁) (older : Older (r.number - done) b b₁) {X : Type 0}
+        (answer : Result X StrikeFault) (answers : Answers k strike_fault (strike_of r) answer b₁ b₂) where
+      beaten : Played k host script start e.count r.number b₁
+      beaten = played_beats r.number b₁ number_from leads older
+
+      strike_fits : strike_questions k.named b₁ r.strike.plane r.strike.row r.strike.column r.strike.byte ≡ None
+      strike_fits =
+          strike_passes _ _ _ b₁ b₂ (beaten.older _ _ _ laid_start) k.named r.strike.plane r.strike.row r.strike.column r.strike.byte
+          (rw is (passed_strike k.named _ _ _ beats script asked.2 e.count within))
+
+      pub strike_unrefused : false ≡ is_ok answer → ⊥
+      strike_unrefused = unrefused k r b₁ b₂ answer answers strike_fits
+
+      outcome : Outcome k (strike_of r) true b₁ b₂
+      outcome = accepted k r b₁ b₂ answer answers strike_fits
+
+      struck : Played k host script start t.count r.number b₂
+      struck =
+          let calls : calls_upto host script (e.count + 1) r.number ≡ _ = calls_struck script host e.count r.number (sym (ap (λ x. x.number) is)) in
+          subst (λ m. Played k host script start m r.number b₂) (sym step.2)
+          record {
+            leads =
+                subst (λ c. Leads k c start b₂) (sym calls)
+                (leads_one k (calls_upto host script e.count r.number) (strike_of (record_in script e.count)) start b₁ b₂ beaten.leads
+                (subst (λ x. Outcome k (strike_of x) true b₁ b₂) is outcome));
+            older = λ n side age laid.
+                let ages : age + r.number + 0 ≡ age + r.number = omega arith in
+                subst (λ a. LaidAs n side a b₂) ages
+                (struck_on n side (age + r.number) b₁ b₂ (beaten.older n side age laid) k.named r.strike.plane r.strike.row r.strike.column r.strike.byte
+                outcome.1);
+          }
+
+      pub underway_next : Underway k host script beats start t r.number b₂
+      underway_next = record {
+        good = u.good;
+        stands = stands_next script e t u.stands r step.0 step.2;
+        number = number_next script e.count t.count r step.2 is;
+        played = struck;
+      }

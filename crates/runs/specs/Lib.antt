@@ -1,6 +1,5 @@
 pub mod Bytes
 pub mod Leads
-pub mod Place
 pub mod RunCall
 pub mod RunFaults
 pub mod RunPins

@@ -23,7 +23,7 @@ record_asked named n side beats before k r =
     ask (r.spare == 0) (run_refusal 12 k)
     (ask (nat_le r.number beats) (run_refusal 13 k)
     (ask (nat_le before r.number) (run_refusal 14 k)
-    (option_map (moved k) (place_questions named n side r.plane r.row r.column r.byte))))
+    (option_map (moved k) (place_questions named n side r.strike.plane r.strike.row r.strike.column r.strike.byte))))
 
 -- The first record has none before it: any number will do.
 abbrev pub number_before : List ℕ → ℕ → ℕ
@@ -52,7 +52,7 @@ run_questions named b = run_questions_of named (standing b)
 
 -- The strike of a record.
 abbrev pub strike_of : {C : Type 0} → Record → Call C
-strike_of r = Strike r.plane r.row r.column r.byte
+strike_of r = Strike r.strike.plane r.strike.row r.strike.column r.strike.byte
 
 -- The strikes of number b among the first m records, in script order.
 abbrev pub strikes_numbered : {C : Type 0} → List ℕ → (m b : ℕ) → List (Call C)

@@ -1,5 +1,7 @@
--- The refusal of each fault of a run.
+-- The refusal of each fault of a run, and the fault that a beat's is.
 use Rattle.hosts.specs.Refusal.{Refusal}
+use Rattle.plate.specs.declared.fault.BeatFault as beat
+use Rattle.plate.specs.declared.fault.BeatFault.TheVariants as beats
 use Rattle.plate.specs.Faults.{strike_fault}
 use Rattle.runs.specs.declared.fault.RunFault.{RunFault}
 use Rattle.runs.specs.declared.fault.RunFault.TheVariants.{Bare, Age, Script, Padding, Number, Order, Strike}
@@ -13,3 +15,8 @@ run_fault (Padding k) = run_refusal 12 k
 run_fault (Number k) = run_refusal 13 k
 run_fault (Order k) = run_refusal 14 k
 run_fault (Strike k fault) = moved k (strike_fault fault)
+
+-- What is wrong with a beat of a run.
+abbrev pub beat_in_run : beat.BeatFault → RunFault
+beat_in_run beats.Bare = Bare
+beat_in_run beats.Age = Age

@@ -8,10 +8,12 @@ use Rattle.runs.specs.Bytes.{number_at}
 abbrev pub record_of : (word : ℕ) → Record
 record_of word = record {
   number = word / 2 ^ 44;
-  plane = word / 2 ^ 32 % 2 ^ 12;
-  row = word / 2 ^ 26 % 2 ^ 6;
-  column = word / 2 ^ 20 % 2 ^ 6;
-  byte = word / 2 ^ 12 % 2 ^ 8;
+  strike = record {
+    plane = word / 2 ^ 32 % 2 ^ 12;
+    row = word / 2 ^ 26 % 2 ^ 6;
+    column = word / 2 ^ 20 % 2 ^ 6;
+    byte = word / 2 ^ 12 % 2 ^ 8;
+  };
   spare = word % 2 ^ 12;
 }
 

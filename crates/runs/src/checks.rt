@@ -4,7 +4,6 @@ ghost use Rattle.runs.specs.RunCall.{record_asked, script_questions, shape_quest
 ghost use Rattle.runs.specs.RunFaults.{run_fault};
 
 use crate::fault::RunFault;
-use crate::place::at;
 use crate::record::Record;
 use crate::script::{RECORD_BYTES, Script};
 use plate::checks::check_strike;
@@ -14,58 +13,56 @@ use toom::kind::Kind;
 // The bytes of the longest script: 8,191 records, so that its length fits in 16 bits.
 pub const MAX_SCRIPT: usize = 65_528;
 
-// Asks the questions of one record. `before` is the number of the record before.
-fn check_record<C: Kind>(
+// What the records of a script are held against: the shape of the plate, and the beats of the run.
+#[derive(Clone, Copy)]
+struct Bounds {
     planes: usize,
     side: usize,
     beats: u32,
-    before: u32,
-    index: usize,
-    record: Record,
-) -> Result<(), RunFault>
-    ensures { MatchResult result (λ _. record_asked C.cell_of planes side beats before index «record» ≡ None) (λ e. record_asked C.cell_of planes side beats before index «record» ≡ Some (run_fault e)) }
-{
-    if record.spare != 0 {
-        return Err(RunFault::Padding { record: index });
-    }
-    if record.number > beats {
-        return Err(RunFault::Number { record: index });
-    }
-    if record.number < before {
-        return Err(RunFault::Order { record: index });
-    }
-    at(
-        index,
-        check_strike::<C>(
-            planes,
-            side,
-            record.plane,
-            record.row,
-            record.column,
-            record.byte,
-        ),
-    )?;
-    Ok(())
 }
 
-// Asks the questions of a script: of its length, then of each record.
-fn check_script<C: Kind>(
-    planes: usize,
-    side: usize,
-    beats: u32,
-    script: &[u8],
-) -> Result<(), RunFault>
-    ensures { MatchResult result (λ _. script_questions C.cell_of planes side beats script.now ≡ None) (λ e. script_questions C.cell_of planes side beats script.now ≡ Some (run_fault e)) }
-{
-    if script.len() % RECORD_BYTES != 0 || script.len() > MAX_SCRIPT {
-        return Err(RunFault::Script);
+impl Bounds {
+    // Asks the questions of one record. `before` is the number of the record before.
+    fn check_record<C: Kind>(
+        self,
+        before: u32,
+        index: usize,
+        record: Record,
+    ) -> Result<(), RunFault>
+        ensures { MatchResult result (λ _. record_asked C.cell_of self.planes self.side self.beats before index «record» ≡ None) (λ e. record_asked C.cell_of self.planes self.side self.beats before index «record» ≡ Some (run_fault e)) }
+    {
+        if record.spare != 0 {
+            return Err(RunFault::Padding { record: index });
+        }
+        if record.number > self.beats {
+            return Err(RunFault::Number { record: index });
+        }
+        if record.number < before {
+            return Err(RunFault::Order { record: index });
+        }
+        check_strike::<C>(self.planes, self.side, record.strike).map_err(
+            |fault| RunFault::Strike {
+                record: index,
+                fault,
+            },
+        )?;
+        Ok(())
     }
-    let mut before = 0;
-    for (index, record) in Script::new(script).enumerate() {
-        check_record::<C>(planes, side, beats, before, index, record)?;
-        before = record.number;
+
+    // Asks the questions of a script: of its length, then of each record.
+    fn check_script<C: Kind>(self, script: &[u8]) -> Result<(), RunFault>
+        ensures { MatchResult result (λ _. script_questions C.cell_of self.planes self.side self.beats script.now ≡ None) (λ e. script_questions C.cell_of self.planes self.side self.beats script.now ≡ Some (run_fault e)) }
+    {
+        if script.len() % RECORD_BYTES != 0 || script.len() > MAX_SCRIPT {
+            return Err(RunFault::Script);
+        }
+        let mut before = 0;
+        for (index, record) in Script::new(script).enumerate() {
+            self.check_record::<C>(before, index, record)?;
+            before = record.number;
+        }
+        Ok(())
     }
-    Ok(())
 }
 
 // The questions of a run on a plate of this shape and age.
@@ -81,5 +78,10 @@ pub fn check_run<C: Kind>(
     if age > MAX_AGE || beats > MAX_AGE - age {
         return Err(RunFault::Age);
     }
-    check_script::<C>(planes, side, beats, script)
+    let bounds = Bounds {
+        planes,
+        side,
+        beats,
+    };
+    bounds.check_script::<C>(script)
 }

@@ -1,9 +1,7 @@
 // Why a run is refused.
 ghost use Rattle.std.specs.Prelude.{◌≡◌};
-ghost use Rattle.runs.specs.declared.fault.RunFault.TheVariants.{Strike};
-ghost use Rattle.runs.specs.Place.{beat_in_run};
+ghost use Rattle.runs.specs.RunFaults.{beat_in_run};
 
-use crate::place::Placed;
 use plate::fault::{BeatFault, StrikeFault};
 
 // `record` is the index of the record, from 0.
@@ -23,17 +21,6 @@ pub enum RunFault {
     Order { record: usize },
     // The strike of the record is refused, by its plane, its place or its byte.
     Strike { record: usize, fault: StrikeFault },
-}
-
-impl From<Placed<StrikeFault>> for RunFault {
-    ghost from_gives = { λ e r. r ≡ Strike e.place e.fault };
-
-    fn from(placed: Placed<StrikeFault>) -> RunFault {
-        RunFault::Strike {
-            record: placed.place,
-            fault: placed.fault,
-        }
-    }
 }
 
 impl From<BeatFault> for RunFault {

@@ -4,7 +4,6 @@
 pub mod checks;
 pub mod fault;
 pub mod laws;
-pub mod place;
 pub mod record;
 pub mod run;
 pub mod script;

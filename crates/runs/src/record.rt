@@ -2,14 +2,13 @@
 ghost use Rattle.std.specs.Prelude.{◌≡◌};
 ghost use Rattle.runs.specs.Script.{record_of};
 
+use plate::strike::Strike;
+
 #[derive(Clone, Copy, PartialEq, Eq, Debug)]
 pub struct Record {
     // 0: before the first beat.
     pub number: u32,
-    pub plane: usize,
-    pub row: usize,
-    pub column: usize,
-    pub byte: u8,
+    pub strike: Strike,
     // The last 12 bits. They have to be zero.
     pub spare: u16,
 }
@@ -21,10 +20,12 @@ impl Record {
     {
         Record {
             number: (word >> 44) as u32,
-            plane: (word >> 32 & 0xFFF) as usize,
-            row: (word >> 26 & 0x3F) as usize,
-            column: (word >> 20 & 0x3F) as usize,
-            byte: (word >> 12 & 0xFF) as u8,
+            strike: Strike {
+                plane: (word >> 32 & 0xFFF) as usize,
+                row: (word >> 26 & 0x3F) as usize,
+                column: (word >> 20 & 0x3F) as usize,
+                byte: (word >> 12 & 0xFF) as u8,
+            },
             spare: (word & 0xFFF) as u16,
         }
     }

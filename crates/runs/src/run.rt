@@ -7,7 +7,6 @@ ghost use Rattle.runs.specs.Runs.{RunAnswers, RunGoesOn};
 
 use crate::checks::check_run;
 use crate::fault::RunFault;
-use crate::place::at;
 use crate::script::Script;
 use hosts::host::Host;
 use plate::plate::Plate;
@@ -45,10 +44,12 @@ fn play<C: Kind, H: Host<C>>(
     for (index, record) in Script::new(script).enumerate() {
         beat_times(plate, host, record.number - done)?;
         done = record.number;
-        at(
-            index,
-            plate.strike(record.plane, record.row, record.column, record.byte),
-        )?;
+        plate
+            .strike(record.strike)
+            .map_err(|fault| RunFault::Strike {
+                record: index,
+                fault,
+            })?;
     }
     beat_times(plate, host, beats - done)
 }

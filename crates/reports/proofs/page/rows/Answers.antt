@@ -1,27 +1,22 @@
-use Rattle.std.proofs.Common.{get_or, arith}
-use Rattle.std.specs.List.{range_with_len, flat_map}
-use Rattle.toom.specs.Shadow.{marks}
-use Rattle.reports.specs.Report.{row_line}
-use Rattle.reports.proofs.Pieces.{joined_counting_grows, piece_fits, wrote_more}
-use Rattle.reports.proofs.Texts.{appends_none}
+use Rattle.reports.proofs.Rows.{next_row, row_fits, row_more, rows_done}
 use Rattle.reports.proofs.page.rows.Goals as goal
 
-pub loop-row-init : goal.loop-row-init
-loop-row-init c = appends_none c.args.text.now
-
-pub row_line-requires : goal.row_line-requires
-row_line-requires c =
-    let s = c.args.shadow.now in
-    let line = row_line s.side (λ j. get_or c.args.hurts.now j 0) (marks s) in record {
-      map = c.requires.map;
-      row = omega (arith, c.side-row-end.ensures);
-      room = piece_fits (λ i. flat_map line (range_with_len 0 i)) line s.side (joined_counting_grows line s.side) c.args.text.now c.requires.room
-          c.loop-row.row (omega (arith, c.side-row-end.ensures)) c.loop-row.invariant;
-    }
+pub row_line-requires-clause-room : goal.row_line-requires-clause-room
+row_line-requires-clause-room c =
+    row_fits c.args.hurts.now c.args.shadow.now c.requires.map c.loop-row.row-iterator c.next.new.self c.loop-row.invariant.at
+    c.in-Some.row c.in-Some.row_hurts c.in-Some.ensures.steps c.requires.room c.loop-row.invariant.wrote
 
 pub loop-row-preserved : goal.loop-row-preserved
 loop-row-preserved c =
-    let s = c.args.shadow.now in
-    let line = row_line s.side (λ j. get_or c.args.hurts.now j 0) (marks s) in
-    wrote_more (λ i. flat_map line (range_with_len 0 i)) line s.side (joined_counting_grows line s.side) c.args.text.now c.requires.room
-    c.loop-row.row (omega (arith, c.side-row-end.ensures)) c.loop-row.invariant c.row_line.ensures
+    let at = c.loop-row.invariant.at in
+    let step = c.in-Some.ensures.steps in record {
+      at = next_row c.args.hurts.now c.args.shadow.now c.requires.map c.loop-row.row-iterator c.next.new.self at c.in-Some.row c.in-Some.row_hurts
+          step;
+      wrote = row_more c.args.hurts.now c.args.shadow.now c.requires.map c.loop-row.row-iterator c.next.new.self at c.in-Some.row
+          c.in-Some.row_hurts step c.requires.room c.loop-row.invariant.wrote c.row_line.ensures;
+    }
+
+pub returns : goal.returns
+returns c =
+    rows_done c.args.hurts.now c.args.shadow.now c.requires.map c.loop-row.row-iterator c.next.new.self c.loop-row.invariant.at
+    c.in-None.ensures.steps.0 c.loop-row.invariant.wrote

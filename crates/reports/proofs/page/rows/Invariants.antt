@@ -3,8 +3,11 @@ use Rattle.std.specs.List.{range_with_len, flat_map}
 use Rattle.toom.specs.Shadow.{marks}
 use Rattle.reports.specs.Report.{row_line}
 use Rattle.reports.specs.Text.{Appends}
+use Rattle.reports.proofs.Rows.{AtRow}
 use Rattle.reports.proofs.page.rows.Given as goal
 
 abbrev pub invariant-loop-row : goal.invariant-loop-row
-invariant-loop-row l =
-    Appends l.initial.text (flat_map (row_line l.shadow.side (λ j. get_or l.hurts j 0) (marks l.shadow)) (range_with_len 0 l.row)) l.text
+invariant-loop-row l = record {
+  at : AtRow l.hurts l.shadow.side l.row-iterator;
+  wrote : Appends l.initial.text (flat_map (row_line l.shadow.side (λ j. get_or l.hurts j 0) (marks l.shadow)) (range_with_len 0 l.row-iterator.count)) l.text;
+}

@@ -1,8 +1,9 @@
-use Rattle.std.proofs.Common.{◌+◌, get_or, sym, ap, ◌∙◌, ap₂, add-one, arith}
-use Rattle.toom.specs.Torus.{total}
+use Rattle.std.proofs.Common.{◌≡◌, sum_by, ◌∙◌, rules}
+use Rattle.plate.proofs.Totals.{sum_by_places}
 use Rattle.reports.proofs.page.sum.Goals as goal
 
-pub loop-hurt-preserved : goal.loop-hurt-preserved
-loop-hurt-preserved c =
-    let sums = total (λ j. get_or c.args.hurts.now j 0) in
-    (ap₂ ◌+◌ c.loop-hurt.invariant.0 c.from-sum.ensures ∙ ap sums (sym (add-one c.loop-hurt.hurt-index)), omega arith)
+pub returns : goal.returns
+returns c =
+    let hurts = c.args.hurts.now in
+    let summed : c.sum.result ≡ sum_by (λ hurt. hurt) hurts = search rules in
+    summed ∙ sum_by_places (λ hurt. hurt) hurts 0

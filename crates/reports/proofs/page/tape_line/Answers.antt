@@ -2,13 +2,10 @@ use Rattle.std.proofs.Common.{codes, ap, arith}
 use Rattle.std.proofs.lemmas.List.{take_all}
 use Rattle.std.specs.List.{flat_map}
 use Rattle.reports.specs.Hex.{pair}
-use Rattle.reports.proofs.Lines.{rest_fits, end_fits, line_written}
+use Rattle.reports.proofs.Lines.{rest_fits, line_written}
 use Rattle.reports.proofs.Pieces.{element_fits, element_more}
-use Rattle.reports.proofs.Texts.{appends_as, appends_none}
+use Rattle.reports.proofs.Texts.{appends_as}
 use Rattle.reports.proofs.page.tape_line.Goals as goal
-
-pub loop-byte-init : goal.loop-byte-init
-loop-byte-init c = appends_none c.push_str.new.self
 
 pub push_pair-requires : goal.push_pair-requires
 push_pair-requires c =
@@ -21,12 +18,6 @@ loop-byte-preserved c =
     let tape = c.args.tape.now in
     element_more pair tape c.push_str.new.self (rest_fits c.args.text.now (codes "tape ") (flat_map pair tape) c.requires c.push_str.ensures)
     c.loop-byte.byte-index (omega arith) c.loop-byte.invariant c.push_pair.ensures
-
-pub end_line-requires : goal.end_line-requires
-end_line-requires c =
-    let tape = c.args.tape.now in
-    end_fits c.args.text.now (codes "tape ") (flat_map pair tape) c.requires c.push_str.ensures
-    (appends_as (ap (flat_map pair) (take_all c.loop-byte.byte-index tape (omega arith))) c.loop-byte.invariant)
 
 pub returns : goal.returns
 returns c =

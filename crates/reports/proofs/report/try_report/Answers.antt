@@ -11,28 +11,28 @@ returns-in_err-map g c =
     let k = members g.C.PartialEq.eq g.C.Kind.byte_of g.C.Kind.cell_of in
     let l = c.in_ok-laid.laid in
     let b = board c.args.plate.now in
-    let stands : standing b ≡ Some l = sym c.standing.ensures ∙ c.in_ok-laid.ensures.ok_part in
+    let stands : standing b ≡ Some l = ◌∙◌ {c = Some l} (sym c.standing.ensures) c.in_ok-laid.ensures.ok_part in
     absurd (map_accepted k b l stands 4096 (map_fault c.in_err-map.field-0.0) (omega arith) c.in_err-map.ensures.outcome.0)
 
-pub returns-in_err-split : goal.returns-in_err-split
-returns-in_err-split g c =
+pub returns-in_err-reading : goal.returns-in_err-reading
+returns-in_err-reading g c =
     let k = members g.C.PartialEq.eq g.C.Kind.byte_of g.C.Kind.cell_of in
     let l = c.in_ok-laid.laid in
     let b = board c.args.plate.now in
-    let stands : standing b ≡ Some l = sym c.standing.ensures ∙ c.in_ok-laid.ensures.ok_part in
-    absurd (read_accepted k b l stands 4096 c.in_err-split.field-0.0 (omega arith) c.in_err-split.ensures)
+    let stands : standing b ≡ Some l = ◌∙◌ {c = Some l} (sym c.standing.ensures) c.in_ok-laid.ensures.ok_part in
+    absurd (read_accepted k b l stands c.in_err-reading.field-0.0 c.in_err-reading.ensures)
 
 pub page-requires : goal.page-requires
 page-requires g c =
     let k = members g.C.PartialEq.eq g.C.Kind.byte_of g.C.Kind.cell_of in
     let l = c.in_ok-laid.laid in
     let b = board c.args.plate.now in
-    let stands : standing b ≡ Some l = sym c.standing.ensures ∙ c.in_ok-laid.ensures.ok_part in
+    let stands : standing b ≡ Some l = ◌∙◌ {c = Some l} (sym c.standing.ensures) c.in_ok-laid.ensures.ok_part in
     let maps = c.in_ok-map.ensures.outcome.1.0 in
-    let reads = c.in_ok-split.ensures in record {
-      map = map_long k b l stands maps reads (omega arith) c.side-side.result c.side-side.ensures (omega arith);
-      room = whole_fits k b l stands _ (told k b l stands maps reads (omega arith) c.side-side.result c.side-side.ensures) c.args.out.now
-          c.new-text.result c.new-text.ensures.len c.new-text.ensures.bytes (omega arith);
+    let sides = c.side-side.ensures in
+    let told = told k b l stands maps c.side-side.result sides _ c.in_ok-reading.ensures in record {
+      map = map_long k b l stands maps c.side-side.result sides (omega arith);
+      room = whole_fits k b l stands _ told c.args.out.now c.new-text.result c.new-text.ensures.len c.new-text.ensures.bytes (omega arith);
     }
 
 pub returns : goal.returns
@@ -40,10 +40,11 @@ returns g c =
     let k = members g.C.PartialEq.eq g.C.Kind.byte_of g.C.Kind.cell_of in
     let l = c.in_ok-laid.laid in
     let b = board c.args.plate.now in
-    let stands : standing b ≡ Some l = sym c.standing.ensures ∙ c.in_ok-laid.ensures.ok_part in
+    let stands : standing b ≡ Some l = ◌∙◌ {c = Some l} (sym c.standing.ensures) c.in_ok-laid.ensures.ok_part in
     let maps = c.in_ok-map.ensures.outcome.1.0 in
-    let reads = c.in_ok-split.ensures in (
+    let sides = c.side-side.ensures in
+    let told = told k b l stands maps c.side-side.result sides _ c.in_ok-reading.ensures in (
       report_asked k b l stands (length c.args.out.now) (omega arith),
-      reports k b l stands _ (told k b l stands maps reads (omega arith) c.side-side.result c.side-side.ensures) c.args.out.now
-          c.new-text.result c.new-text.ensures.len c.new-text.ensures.bytes c.page.ensures c.len.ensures (search rules),
+      reports k b l stands _ told c.args.out.now c.new-text.result c.new-text.ensures.len c.new-text.ensures.bytes c.page.ensures
+          c.len.ensures (search rules),
     )

@@ -1,9 +1,6 @@
 use Rattle.std.proofs.Common.{[], ◌∷◌, ap₂}
-use Rattle.reports.proofs.Texts.{appends_as, appends_more, fits_more}
+use Rattle.reports.proofs.Texts.{appends_as, appends_more}
 use Rattle.reports.proofs.text.Text.push_pair.Goals as goal
-
-pub push-requires-2 : goal.push-requires-2
-push-requires-2 c = fits_more c.push.ensures (c.hex_digit-2.result ∷ []) c.requires
 
 pub returns : goal.returns
 returns c =
