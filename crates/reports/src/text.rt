@@ -1,4 +1,4 @@
-// Text that is written into its caller's bytes, from their start on.
+// Text that is written into its caller's bytes, from their start on. Nothing here allocates, so the length stands beside them.
 ghost use Rattle.std.specs.Prelude.{◌≡◌, ◌<◌, [], ◌∷◌, decimal};
 ghost use Rattle.std.specs.Char.{digit_char};
 ghost use Rattle.reports.specs.Hex.{pair};
@@ -52,7 +52,7 @@ impl<'a> Text<'a> {
         self.len = end;
     }
 
-    // The number in plain decimal.
+    // The number in plain decimal. By hand: by its contract a `write!` may fail, and a line that has room may not.
     pub fn push_decimal(&mut self, n: usize)
         requires { Fits self.old (decimal n) }
         ensures { Appends self.old (decimal n) self.new }

@@ -1,5 +1,5 @@
 -- What the program answers to a round.
-use Rattle.std.specs.Prelude.{◌≡◌, ℕ, Bool, true, false, List, length, Ok, ◌==◌}
+use Rattle.std.specs.Prelude.{◌≡◌, ℕ, List, length, Ok}
 use Rattle.toom.specs.Bit.{bit_of_byte, byte_of_bit, equal_bits}
 use Rattle.toom.specs.MachineCell.{byte_of_machine_cell, equal_machine_cells, machine_cell_of_byte}
 use Rattle.hosts.specs.declared.elementary.Elementary.{Elementary}
@@ -8,6 +8,8 @@ use Rattle.hosts.specs.MachineFile.{MachineIn, machine_refusal}
 use Rattle.hosts.specs.MachineRule.{machine_rule}
 use Rattle.plate.specs.Members.{Members}
 use Rattle.plate.specs.Plates.{members}
+use Rattle.rounds.specs.declared.file_kind.FileKind.{FileKind}
+use Rattle.rounds.specs.declared.file_kind.FileKind.TheVariants.{Bits, MachineCells, Other}
 use Rattle.rounds.specs.Hosts.{RuleIn, rule_questions}
 use Rattle.rounds.specs.PlayCall.{Entrant, entrant}
 use Rattle.rounds.specs.ReplyCall.{Replies}
@@ -23,17 +25,18 @@ pub record Replied {C H : Type 0} (k : Members C) (e : Entrant C H) (file : List
 -- Rounds of machine cells.
 abbrev pub MachineReplied : (file : List ℕ) → (n : ℕ) → (out out' : List ℕ) → Type 0
 MachineReplied =
-    Replied (members equal_machine_cells byte_of_machine_cell machine_cell_of_byte) (entrant 1 machine_refusal MachineIn machine_rule)
+    Replied (members equal_machine_cells byte_of_machine_cell machine_cell_of_byte) (entrant MachineCells machine_refusal MachineIn machine_rule)
 
 -- Rounds of bits.
 abbrev pub BitsReplied : (file : List ℕ) → (n : ℕ) → (out out' : List ℕ) → Type 0
 BitsReplied =
-    Replied (members equal_bits byte_of_bit bit_of_byte) (entrant 0 rule_questions RuleIn (λ (host : Elementary). wolfram host.rule))
+    Replied (members equal_bits byte_of_bit bit_of_byte) (entrant Bits rule_questions RuleIn (λ (host : Elementary). wolfram host.rule))
 
-abbrev pub RepliedTo : (machine : Bool) → (file : List ℕ) → (n : ℕ) → (out out' : List ℕ) → Type 0
-RepliedTo true = MachineReplied
-RepliedTo false = BitsReplied
+abbrev pub RepliedTo : FileKind → (file : List ℕ) → (n : ℕ) → (out out' : List ℕ) → Type 0
+RepliedTo MachineCells = MachineReplied
+RepliedTo Bits = BitsReplied
+RepliedTo (Other number) = BitsReplied
 
--- A file of kind 1 gets the reply of machine cells, every other that of bits.
+-- A file of machine cells gets their reply, every other that of bits.
 abbrev pub Answered : (file : List ℕ) → (n : ℕ) → (out out' : List ℕ) → Type 0
-Answered file = RepliedTo (kind_in file == 1) file
+Answered file = RepliedTo (kind_in file) file

@@ -10,7 +10,8 @@ use anyhow::anyhow;
 use hosts::elementary::Elementary;
 use hosts::machine::Machine;
 use reports::report::REPORT_BYTES;
-use rounds::entry::{Entry, MACHINE_CELLS};
+use rounds::entry::Entry;
+use rounds::file_kind::FileKind;
 use rounds::reply::reply;
 use rounds::round::{MAX_ROUND, ROUND_CELLS, kind};
 use std::alloc::Global;
@@ -23,7 +24,8 @@ use toom::machine_cell::MachineCell;
 // One byte more than the longest round has, so that a longer one is seen to be too long.
 const INPUT_BYTES: usize = MAX_ROUND + 1;
 
-// Reads until the input ends or the buffer is full. Each read but the last gives a byte at least.
+// Reads until the input ends or the buffer is full. Each read but the last gives a byte at least. By hand, since `read_to_end` allocates again
+// once its buffer is full, and `read_exact` fails if the input ends before that.
 fn fill<R: Read>(source: &mut R, buffer: &mut [u8]) -> anyhow::Result<usize>
     ensures within { IfOk result (λ n. n ≤ length buffer.new) }
     ensures long { length buffer.new ≡ length buffer.old }
@@ -46,26 +48,26 @@ fn reply_of<C: Kind + Clone, H: Entry<C>>(
     file: &[u8],
     out: &mut [u8],
 ) -> anyhow::Result<usize>
-    ensures replied { IfOk result (λ n. Replied (members C.eq C.byte_of C.cell_of) (entrant H.number H.questions H.is_in H.Host.meaning) file.now n out.old out.new) }
+    ensures replied { IfOk result (λ n. Replied (members C.eq C.byte_of C.cell_of) (entrant H.kind H.questions H.is_in H.Host.meaning) file.now n out.old out.new) }
     ensures within { IfOk result (λ n. n ≤ length out.new) }
 {
     let mut cells = vec![in heap; blank; ROUND_CELLS]?;
-    match reply::<C, H>(cells.as_mut_slice(), file, out) {
-        Ok(len) => Ok(len),
-        Err(_) => Err(anyhow!("the output is too short")),
-    }
+    reply::<C, H>(&mut cells, file, out).map_err(|_| anyhow!("the output is too short"))
 }
 
-// The reply of the kind that the file says.
+// The reply of the kind that the file says; the play of bits refuses a file of another number.
 fn answer(heap: Global, file: &[u8], out: &mut [u8]) -> anyhow::Result<usize>
     ensures answered { IfOk result (λ n. Answered file.now n out.old out.new) }
     ensures within { IfOk result (λ n. n ≤ length out.new) }
 {
-    if kind(file) == MACHINE_CELLS {
-        let blank = MachineCell { head: 0, symbol: 0 };
-        reply_of::<MachineCell, Machine>(heap, blank, file, out)
-    } else {
-        reply_of::<Bit, Elementary>(heap, Bit::Zero, file, out)
+    match kind(file) {
+        FileKind::MachineCells => {
+            let blank = MachineCell { head: 0, symbol: 0 };
+            reply_of::<MachineCell, Machine>(heap, blank, file, out)
+        }
+        FileKind::Bits | FileKind::Other(_) => {
+            reply_of::<Bit, Elementary>(heap, Bit::Zero, file, out)
+        }
     }
 }
 
@@ -82,33 +84,31 @@ fn play_from<R: Read>(
     Ok(())
 }
 
-// With no file named, or for the name `-`, the round comes from standard input.
+// Plays the round of the file of this name, or of standard input for the name `-`.
+fn play_named(
+    rt: &HostRuntime,
+    name: &str,
+    input: &mut [u8],
+    out: &mut [u8],
+) -> anyhow::Result<()> {
+    if name == "-" {
+        play_from(rt, &mut rt.stdin(), input, out)
+    } else {
+        play_from(rt, &mut fs::open(rt, name)?, input, out)
+    }
+}
+
+// With no file named, the round comes from standard input.
 fn run(rt: &HostRuntime) -> anyhow::Result<()> {
     let heap = rt.alloc();
     let mut input = vec![in heap; 0u8; INPUT_BYTES]?;
     let mut out = vec![in heap; 0u8; REPORT_BYTES]?;
-    let mut named = false;
-    for name in env::args(rt)?.skip(1) {
-        named = true;
-        if name.as_str() == "-" {
-            play_from(
-                rt,
-                &mut rt.stdin(),
-                input.as_mut_slice(),
-                out.as_mut_slice(),
-            )?;
-        } else {
-            let mut file = fs::open(rt, name.as_str())?;
-            play_from(rt, &mut file, input.as_mut_slice(), out.as_mut_slice())?;
-        }
+    let names = env::args(rt)?.skip(1);
+    if names.len() == 0 {
+        return play_named(rt, "-", &mut input, &mut out);
     }
-    if !named {
-        play_from(
-            rt,
-            &mut rt.stdin(),
-            input.as_mut_slice(),
-            out.as_mut_slice(),
-        )?;
+    for name in names {
+        play_named(rt, &name, &mut input, &mut out)?;
     }
     Ok(())
 }

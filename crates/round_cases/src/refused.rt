@@ -8,7 +8,7 @@ use plate::fault::{BeatFault, LayFault, MapFault, ReadFault, ShadowFault, Strike
 use reports::fault::ReportFault;
 use rounds::entry::Entry;
 use rounds::fault::{HostFault, PlayFault, RefusedFault, RoundFault};
-use rounds::refusal::Fault;
+use rounds::refusal::Refusal;
 use rounds::refused::refused;
 use rounds::reply::reply;
 use runs::fault::RunFault;
@@ -19,12 +19,13 @@ use toom::kind::Kind;
 use toom::machine_cell::MachineCell;
 
 // The line of the fault, in the shortest output that is enough, and in none that is shorter.
-fn check_line<F: Fault>(rt: &impl Abort, fault: F, line: &str) -> Result<(), Fail> {
+fn check_line<F: Into<Refusal>>(rt: &impl Abort, fault: F, line: &str) -> Result<(), Fail> {
+    let refusal = fault.into();
     let mut out = [FILL; 64];
-    let len = refused(fault, &mut out)?;
+    let len = refused(refusal, &mut out)?;
     check_text(rt, &out, len, line);
     let mut short = [FILL; 63];
-    assert_eq!(rt; refused(fault, &mut short), Err(RefusedFault::Output));
+    assert_eq!(rt; refused(refusal, &mut short), Err(RefusedFault::Output));
     check_untouched(rt, &short);
     Ok(())
 }

@@ -5,7 +5,7 @@ use hosts::elementary::Elementary;
 use hosts::machine::Machine;
 use rounds::entry::Entry;
 use rounds::play::play;
-use rounds::refusal::{Fault, Refusal, Word};
+use rounds::refusal::{Refusal, Word};
 use std::process::Abort;
 use std::test::Fail;
 use toom::bit::Bit;
@@ -43,7 +43,7 @@ fn refuse<C: Kind, H: Entry<C>>(
     let (number, word, place) = told;
     let length = file.len();
     assert_eq!(rt;
-        fault.refusal(),
+        Refusal::from(fault),
         Refusal {
             number,
             word,

@@ -34,7 +34,12 @@ fn refuse<C: Kind>(rt: &impl Abort, plate: &Plate<'_, C>, out: &mut [u8], fault:
 fn split<C: Kind>(plate: &mut Plate<'_, C>, plane: usize, byte: u8) -> Result<(), Fail> {
     for row in 0..2usize {
         for column in 0..4usize {
-            plate.strike(Strike { plane, row, column, byte })?;
+            plate.strike(Strike {
+                plane,
+                row,
+                column,
+                byte,
+            })?;
         }
     }
     Ok(())
@@ -48,7 +53,12 @@ fn hurt<C: Kind>(plate: &mut Plate<'_, C>, tape: [u8; 3], wrong: [u8; 3]) -> Res
         (1, 2, 3, tape[1]),
         (1, 3, 0, wrong[1]),
     ] {
-        plate.strike(Strike { plane, row, column, byte })?;
+        plate.strike(Strike {
+            plane,
+            row,
+            column,
+            byte,
+        })?;
     }
     Ok(())
 }
@@ -130,7 +140,12 @@ fn strike_all<C: Kind>(plate: &mut Plate<'_, C>, byte: u8) -> Result<(), Fail> {
     for plane in 0..4096usize {
         for row in 0..64usize {
             for column in 0..64usize {
-                plate.strike(Strike { plane, row, column, byte })?;
+                plate.strike(Strike {
+                    plane,
+                    row,
+                    column,
+                    byte,
+                })?;
             }
         }
     }

@@ -4,6 +4,7 @@ use crate::outputs::{FILL, ROOM, check_text};
 use hosts::elementary::Elementary;
 use hosts::machine::Machine;
 use rounds::entry::Entry;
+use rounds::file_kind::FileKind;
 use rounds::play::play;
 use rounds::round::{Round, kind};
 use std::process::Abort;
@@ -14,7 +15,7 @@ use toom::machine_cell::MachineCell;
 
 #[test]
 fn kinds_of_files(rt: HostRuntime) {
-    assert_eq!(rt; kind(&[]), 0);
+    assert_eq!(rt; kind(&[]), FileKind::from(0));
     for (first, number) in [
         (0x00, 0),
         (0x3F, 0),
@@ -25,8 +26,8 @@ fn kinds_of_files(rt: HostRuntime) {
         (0xC0, 3),
         (0xFF, 3),
     ] {
-        assert_eq!(rt; kind(&[first]), number);
-        assert_eq!(rt; kind(&[first, 0xFF]), number);
+        assert_eq!(rt; kind(&[first]), FileKind::from(number));
+        assert_eq!(rt; kind(&[first, 0xFF]), FileKind::from(number));
     }
 }
 
@@ -40,7 +41,7 @@ fn check_round(
     tape: &[u8],
     script: &[u8],
 ) -> Result<(), Fail> {
-    let round = Round::read(kind, file)?;
+    let round = Round::read(FileKind::from(kind), file)?;
     assert_eq!(rt; (round.planes, round.side, round.beats), shape);
     assert_eq!(rt; round.host, host);
     assert_eq!(rt; round.tape, tape);

@@ -1,30 +1,26 @@
--- The fields of a round's header, from its first byte and the word of the other eight.
-use Rattle.std.proofs.Common.{◌≡◌, ℕ, ◌+◌, ◌*◌, ◌/◌, ◌%◌, ◌^◌, ◌<◌, List, [], ◌∷◌, length, get_or, refl, arith}
+-- The header is read from the first nine bytes alone.
+use Rattle.std.proofs.Common.{◌≡◌, ℕ, zero, suc, ◌+◌, ◌/◌, ◌%◌, ◌^◌, ◌≤◌, List, take, refl, ap, ◌∙◌, arith}
+use Rattle.std.proofs.lemmas.List.{get_or-take}
 use Rattle.runs.specs.Bytes.{number_at}
-use Rattle.rounds.specs.RoundFile.{header, kind_in, side_in, planes_in, beats_in, host_length, script_length}
+use Rattle.rounds.specs.declared.round.Header.{Header}
+use Rattle.rounds.specs.FileKind.{file_kind}
+use Rattle.rounds.specs.RoundFile.{HeaderIn, header}
 
-pub kind_of_none : (file : List ℕ) → length file ≡ 0 → 0 ≡ kind_in file
-kind_of_none [] none = refl
-kind_of_none (byte ∷ file) none = absurd (omega arith)
+number_at-take : (bytes : List ℕ) (n from count : ℕ) → from + count ≤ n → number_at (take n bytes) from count ≡ number_at bytes from count
+number_at-take bytes n from zero within = refl
+number_at-take bytes n from (suc count) within =
+    let before = number_at-take bytes n from count (omega arith) in
+    let here = get_or-take n bytes (from + count) 0 (omega arith) in
+    cc
 
-module _ (file : List ℕ) (rest : ℕ) (is : rest ≡ number_at file 1 8) (small : get_or {A = ℕ} file 0 0 < 256) (fits : rest < 2 ^ 64) where
-  split : header file ≡ get_or file 0 0 * 2 ^ 64 + rest
-  split = omega (arith, is)
-
-  pub kind_is : kind_in file ≡ get_or file 0 0 / 64
-  kind_is = omega (arith, split)
-
-  pub side_is : side_in file ≡ get_or file 0 0 % 64 + 1
-  side_is = omega (arith, split)
-
-  pub planes_is : planes_in file ≡ rest / 2 ^ 52 + 1
-  planes_is = omega (arith, split)
-
-  pub beats_is : beats_in file ≡ rest / 2 ^ 32 % 2 ^ 20
-  beats_is = omega (arith, split)
-
-  pub host_is : host_length file ≡ rest / 2 ^ 16 % 2 ^ 16
-  host_is = omega (arith, split)
-
-  pub script_is : script_length file ≡ rest % 2 ^ 16
-  script_is = omega (arith, split)
+pub header_in : (file : List ℕ) (h : Header) → HeaderIn (take 9 file) h → HeaderIn file h
+header_in file h is =
+    let same : header (take 9 file) ≡ header file = number_at-take file 9 0 9 (omega arith) in
+    record {
+      kind = is.kind ∙ ap (λ n. file_kind (n / 2 ^ 70)) same;
+      side = is.side ∙ ap (λ n. n / 2 ^ 64 % 2 ^ 6 + 1) same;
+      planes = is.planes ∙ ap (λ n. n / 2 ^ 52 % 2 ^ 12 + 1) same;
+      beats = is.beats ∙ ap (λ n. n / 2 ^ 32 % 2 ^ 20) same;
+      host = is.host ∙ ap (λ n. n / 2 ^ 16 % 2 ^ 16) same;
+      script = is.script ∙ ap (λ n. n % 2 ^ 16) same;
+    }

@@ -1,8 +1,10 @@
 pub mod Admitting
+pub mod FileKinds
 pub mod Headers
-pub mod Memories
+pub mod Parts
 pub mod Performing
 pub mod PlayPins
 pub mod Playing
+pub mod RefusedLine
 pub mod RefusedRoom
 pub mod Within

@@ -1,5 +1,5 @@
 -- A play's outcome pins its end: the file has one host, each call of the round pins its end, and a refusal leaves everything.
-use Rattle.std.proofs.Common.{◌≡◌, ℕ, true, cond, eqb, ltb, List, ◌++◌, length, get_or, drop, None, Ok, Err, Result, sym, refl, ap, ◌∙◌, subst}
+use Rattle.std.proofs.Common.{◌≡◌, ℕ, true, cond, eqb, ltb, List, ◌++◌, length, get_or, drop, None, Ok, Err, Result, sym, refl, ap, ◌∙◌, subst, arith}
 use Rattle.hosts.specs.declared.machine.fault.MachineFault.TheVariants as machines
 use Rattle.hosts.specs.Refusal.{Refusal}
 use Rattle.plate.specs.declared.fault.LayFault.TheVariants as lays
@@ -67,34 +67,13 @@ play_back r =
 
 play_undone : (f : PlayFault) → play_back (play_fault f) ≡ f
 unfolding play_back
-play_undone (Round rounds.Header) = refl
-play_undone (Round rounds.Kind) = refl
-play_undone (Round rounds.Length) = refl
-play_undone (Round rounds.Copies) = refl
-play_undone (Report reports.Bare) = refl
-play_undone (Report reports.Output) = refl
+play_undone (Round fault) = grind arith
+play_undone (Report fault) = grind arith
 play_undone (Host hosts.Rule) = refl
-play_undone (Host (hosts.Machine machines.Header)) = refl
-play_undone (Host (hosts.Machine machines.Length)) = refl
-play_undone (Host (hosts.Machine (machines.Next at))) = refl
-play_undone (Host (hosts.Machine (machines.Symbol at))) = refl
-play_undone (Host (hosts.Machine (machines.Move at))) = refl
-play_undone (Host (hosts.Machine (machines.Padding at))) = refl
-play_undone (Lay lays.Planes) = refl
-play_undone (Lay lays.Side) = refl
-play_undone (Lay lays.Tape) = refl
-play_undone (Lay lays.Memory) = refl
-play_undone (Lay (lays.Byte at)) = refl
-play_undone (Run runs.Bare) = refl
-play_undone (Run runs.Age) = refl
-play_undone (Run runs.Script) = refl
-play_undone (Run (runs.Padding at)) = refl
-play_undone (Run (runs.Number at)) = refl
-play_undone (Run (runs.Order at)) = refl
-play_undone (Run (runs.Strike at strikes.Bare)) = refl
-play_undone (Run (runs.Strike at strikes.Plane)) = refl
-play_undone (Run (runs.Strike at strikes.Place)) = refl
-play_undone (Run (runs.Strike at strikes.Byte)) = refl
+play_undone (Host (hosts.Machine fault)) = grind arith
+play_undone (Lay fault) = grind arith
+play_undone (Run (runs.Strike at fault)) = grind arith
+play_undone (Run fault) = grind arith
 
 pub play_faults_pin : PlayFaultsPin
 play_faults_pin = undone play_fault play_back play_undone

@@ -4,22 +4,11 @@ use Rattle.std.proofs.lemmas.Fmt.{length-decimal-le}
 use Rattle.std.proofs.lemmas.List.{length-append}
 use Rattle.rounds.specs.declared.refusal.Refusal.{Refusal}
 use Rattle.rounds.specs.declared.refusal.Word.{Word}
-use Rattle.rounds.specs.declared.refusal.Word.TheVariants.{Lay, Strike, Beat, Run, Read, Map, Shadow, Report, Host, Round, Refused}
 use Rattle.rounds.specs.RefusedCall.{refused_line}
 use Rattle.rounds.specs.Told.{told, word_text}
 
 word_short : (w : Word) → length (word_text w) ≤ 7
-word_short Lay = omega arith
-word_short Strike = omega arith
-word_short Beat = omega arith
-word_short Run = omega arith
-word_short Read = omega arith
-word_short Map = omega arith
-word_short Shadow = omega arith
-word_short Report = omega arith
-word_short Host = omega arith
-word_short Round = omega arith
-word_short Refused = omega arith
+word_short w = grind arith
 
 pub refused_fits : (r : Refusal) → r.number < 256 → r.place < 2 ^ 64 → length (refused_line (told r)) ≤ 64
 refused_fits r small fits =

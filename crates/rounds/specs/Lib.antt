@@ -1,3 +1,4 @@
+pub mod FileKind
 pub mod Hosts
 pub mod Memory
 pub mod PlayCall

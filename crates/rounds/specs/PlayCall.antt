@@ -14,17 +14,18 @@ use Rattle.runs.specs.RunFaults.{run_fault}
 use Rattle.reports.specs.ReportCall.{Reports, report_fault, report_refusal}
 use Rattle.rounds.specs.declared.fault.PlayFault.{PlayFault}
 use Rattle.rounds.specs.declared.fault.PlayFault.TheVariants as faults
+use Rattle.rounds.specs.declared.file_kind.FileKind.{FileKind}
 use Rattle.rounds.specs.Hosts.{host_fault}
 use Rattle.rounds.specs.RoundFile.{beats_in, host_in, planes_in, round_fault, round_questions, script_in, side_in, tape_in}
 
--- What a kind of round has of its own: the kind's number, the questions of a host, that a host is in these bytes, and what it means.
+-- What a kind of round has of its own: the kind that its files say, the questions of a host, that a host is in these bytes, and what it means.
 pub record Entrant (C H : Type 0) : Type 1 where
-  pub kind : ℕ
+  pub kind : FileKind
   pub questions : List ℕ → Option Refusal
   pub in_bytes : List ℕ → H → Type 0
   pub meaning : H → C → C → C → C
 
-abbrev pub entrant : {C H : Type 0} → ℕ → (List ℕ → Option Refusal) → (List ℕ → H → Type 0) → (H → C → C → C → C) → Entrant C H
+abbrev pub entrant : {C H : Type 0} → FileKind → (List ℕ → Option Refusal) → (List ℕ → H → Type 0) → (H → C → C → C → C) → Entrant C H
 entrant kind questions in_bytes meaning = record { kind = kind; questions = questions; in_bytes = in_bytes; meaning = meaning }
 
 -- The file's questions, the report's, the host's, lay's; and run's, for the plate that this lay would make. `memory` and `room` are the lengths of

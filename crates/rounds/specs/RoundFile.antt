@@ -4,15 +4,17 @@ use Rattle.hosts.specs.Refusal.{Refusal, ask}
 use Rattle.runs.specs.Bytes.{number_at}
 use Rattle.rounds.specs.declared.fault.RoundFault.{RoundFault}
 use Rattle.rounds.specs.declared.fault.RoundFault.TheVariants as faults
+use Rattle.rounds.specs.declared.file_kind.FileKind.{FileKind}
 use Rattle.rounds.specs.declared.round.Header.{Header}
 use Rattle.rounds.specs.declared.round.Round.{Round}
+use Rattle.rounds.specs.FileKind.{file_kind, same_kind}
 
 -- Fields from the highest bit: kind 2, P - 1 in 6, n - 1 in 12, beats 20, the lengths of host and script 16 each.
 abbrev pub header : List ℕ → ℕ
 header file = number_at file 0 9
 
-abbrev pub kind_in : List ℕ → ℕ
-kind_in file = header file / 2 ^ 70
+abbrev pub kind_in : List ℕ → FileKind
+kind_in file = file_kind (header file / 2 ^ 70)
 
 abbrev pub side_in : List ℕ → ℕ
 side_in file = header file / 2 ^ 64 % 2 ^ 6 + 1
@@ -50,11 +52,11 @@ script_in file = take (script_length file) (drop (9 + host_length file + planes_
 abbrev pub round_refusal : (number : ℕ) → Refusal
 round_refusal number = record { number = number; word = codes "round"; place = 0 }
 
--- The questions of a file for the kind of this number.
-abbrev pub round_questions : (kind : ℕ) → List ℕ → Option Refusal
+-- The questions of a file for this kind.
+abbrev pub round_questions : (kind : FileKind) → List ℕ → Option Refusal
 round_questions kind file =
     ask (nat_le 9 (length file)) (round_refusal 23)
-    (ask (kind_in file == kind) (round_refusal 24)
+    (ask (same_kind (kind_in file) kind) (round_refusal 24)
     (ask (length file == 9 + host_length file + planes_in file + script_length file && nat_le (length file) 65535) (round_refusal 25)
     (ask (nat_le (planes_in file * (side_in file * side_in file)) 16384) (round_refusal 26) None)))
 

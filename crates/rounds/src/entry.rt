@@ -1,12 +1,15 @@
-// A host that a round file can enter: its number among the kinds, and how it is read.
+// A host that a round file can enter: the kind of its cells, and how it is read.
 ghost use Rattle.std.specs.Prelude.{◌≡◌, ℕ, List, Some, None, Option, MatchResult};
 ghost use Rattle.hosts.specs.MachineFile.{machine_refusal, MachineIn};
 ghost use Rattle.hosts.specs.Refusal.{Refusal};
+ghost use Rattle.rounds.specs.declared.file_kind.FileKind.{FileKind};
+ghost use Rattle.rounds.specs.declared.file_kind.FileKind.TheVariants.{Bits, MachineCells};
 ghost use Rattle.rounds.specs.Hosts.{host_fault, rule_questions, RuleIn};
 ghost use Rattle.std.proofs.Common.{rules};
 ghost use Rattle.hosts.proofs.Machines.{one_machine_each};
 
 use crate::fault::HostFault;
+use crate::file_kind::FileKind;
 use hosts::elementary::Elementary;
 use hosts::host::Host;
 use hosts::machine::Machine;
@@ -14,14 +17,9 @@ use toom::bit::Bit;
 use toom::kind::Kind;
 use toom::machine_cell::MachineCell;
 
-// The numbers of the kinds.
-pub const BITS: u8 = 0;
-
-pub const MACHINE_CELLS: u8 = 1;
-
 pub trait Entry<C>: Host<C> + Copy {
-    // The number of its kind of cell in a round file.
-    ghost number: { ℕ };
+    // The kind of cell that its round files say.
+    ghost kind: { FileKind };
 
     // The first refusal that its bytes get, if any.
     ghost questions: { List ℕ → Option Refusal };
@@ -29,8 +27,8 @@ pub trait Entry<C>: Host<C> + Copy {
     // That it is the host of these bytes.
     ghost is_in: { List ℕ → Self → Type 0 };
 
-    fn kind() -> u8
-        ensures { result ≡ number };
+    fn kind() -> FileKind
+        ensures { result ≡ kind };
 
     fn read(bytes: &[u8]) -> Result<Self, HostFault>
         ensures { MatchResult result (λ x. (questions bytes.now ≡ None) × is_in bytes.now x) (λ e. questions bytes.now ≡ Some (host_fault e)) };
@@ -39,9 +37,9 @@ pub trait Entry<C>: Host<C> + Copy {
     ghost once: { (bytes : List ℕ) (x y : Self) → is_in bytes x → is_in bytes y → x ≡ y };
 }
 
-// Kind 0: one byte, Wolfram's number of the rule.
+// One byte, Wolfram's number of the rule.
 impl Entry<Bit> for Elementary {
-    ghost number = { 0 };
+    ghost kind = { Bits };
 
     ghost questions = { rule_questions };
 
@@ -49,21 +47,21 @@ impl Entry<Bit> for Elementary {
 
     ghost once = { Prim.search rules };
 
-    fn kind() -> u8 {
-        BITS
+    fn kind() -> FileKind {
+        FileKind::Bits
     }
 
     fn read(bytes: &[u8]) -> Result<Elementary, HostFault> {
-        let [rule] = bytes else {
+        let [rule] = *bytes else {
             return Err(HostFault::Rule);
         };
-        Ok(Elementary { rule: *rule })
+        Ok(Elementary { rule })
     }
 }
 
-// Kind 1: a machine file.
+// A machine file.
 impl Entry<MachineCell> for Machine {
-    ghost number = { 1 };
+    ghost kind = { MachineCells };
 
     ghost questions = { machine_refusal };
 
@@ -71,12 +69,11 @@ impl Entry<MachineCell> for Machine {
 
     ghost once = { one_machine_each };
 
-    fn kind() -> u8 {
-        MACHINE_CELLS
+    fn kind() -> FileKind {
+        FileKind::MachineCells
     }
 
     fn read(bytes: &[u8]) -> Result<Machine, HostFault> {
-        let machine = Machine::read(bytes)?;
-        Ok(machine)
+        Ok(Machine::read(bytes)?)
     }
 }

@@ -29,6 +29,8 @@ pub enum HostFault {
     Machine(MachineFault),
 }
 
+// Conversions by hand, and not by `thiserror`: clauses name the fault that a `?` makes.
+
 impl From<MachineFault> for HostFault {
     ghost from_gives = { λ e r. r ≡ Machine e };
 

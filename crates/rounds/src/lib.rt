@@ -3,6 +3,7 @@
 
 pub mod entry;
 pub mod fault;
+pub mod file_kind;
 pub mod laws;
 pub mod play;
 pub mod refusal;

@@ -23,7 +23,7 @@ fn admit<'a, C: Kind, H: Entry<C>>(
     memory: usize,
     room: usize,
 ) -> Result<(Round<'a>, H), PlayFault>
-    ensures { MatchResult result (λ x. (play_questions (members C.eq C.byte_of C.cell_of) (entrant H.number H.questions H.is_in H.Host.meaning) file.now memory room ≡ None) × RoundIn file.now x.0 × H.is_in (host_in file.now) x.1) (λ e. play_questions (members C.eq C.byte_of C.cell_of) (entrant H.number H.questions H.is_in H.Host.meaning) file.now memory room ≡ Some (play_fault e)) }
+    ensures { MatchResult result (λ x. (play_questions (members C.eq C.byte_of C.cell_of) (entrant H.kind H.questions H.is_in H.Host.meaning) file.now memory room ≡ None) × RoundIn file.now x.0 × H.is_in (host_in file.now) x.1) (λ e. play_questions (members C.eq C.byte_of C.cell_of) (entrant H.kind H.questions H.is_in H.Host.meaning) file.now memory room ≡ Some (play_fault e)) }
 {
     let round = Round::read(H::kind(), file)?;
     if room < REPORT_BYTES {
@@ -50,8 +50,7 @@ fn perform<C: Kind, H: Entry<C>>(
     let mut plate = Plate::new(memory);
     plate.lay(round.planes, round.side, round.tape)?;
     run(&mut plate, host, round.script, round.beats)?;
-    let len = report(&plate, out)?;
-    Ok(len)
+    Ok(report(&plate, out)?)
 }
 
 // Plays the round of a file over this memory, and writes its report at the front of the output. Answers the report's length. All questions
@@ -61,8 +60,8 @@ pub fn play<C: Kind, H: Entry<C>>(
     file: &[u8],
     out: &mut [u8],
 ) -> Result<usize, PlayFault>
-    ensures outcome { PlayAnswers (members C.eq C.byte_of C.cell_of) (entrant H.number H.questions H.is_in H.Host.meaning) file.now result memory.old memory.new out.old out.new }
-    ensures heals { PlayHeals (members C.eq C.byte_of C.cell_of) (entrant H.number H.questions H.is_in H.Host.meaning) file.now result memory.old memory.new out.old out.new }
+    ensures outcome { PlayAnswers (members C.eq C.byte_of C.cell_of) (entrant H.kind H.questions H.is_in H.Host.meaning) file.now result memory.old memory.new out.old out.new }
+    ensures heals { PlayHeals (members C.eq C.byte_of C.cell_of) (entrant H.kind H.questions H.is_in H.Host.meaning) file.now result memory.old memory.new out.old out.new }
 {
     let (round, host) = admit::<C, H>(file, memory.len(), out.len())?;
     perform(memory, round, &host, out)

@@ -1,7 +1,6 @@
 // What a fault is told as: the number of the question that failed, a word and a place.
 ghost use Rattle.std.specs.Prelude.{◌≡◌};
 ghost use Rattle.hosts.specs.MachineFault.{refusal_of};
-ghost use Rattle.hosts.specs.Refusal as refusals;
 ghost use Rattle.plate.specs.Faults.{lay_fault, strike_fault, beat_fault, read_fault, map_fault, shadow_fault};
 ghost use Rattle.runs.specs.RunFaults.{run_fault};
 ghost use Rattle.reports.specs.ReportCall.{report_fault};
@@ -34,6 +33,7 @@ pub enum Word {
 }
 
 impl Word {
+    // Not by `Display`: the line of a refusal takes its words as `&str`.
     pub fn text(self) -> &'static str
         ensures { result.now ≡ word_text self }
     {
@@ -61,236 +61,184 @@ pub struct Refusal {
     pub place: usize,
 }
 
-// A fault that can be told.
-pub trait Fault: Copy {
-    ghost refusal: { Self → refusals.Refusal };
-
-    fn refusal(self) -> Refusal
-        ensures { told result ≡ refusal self };
-}
-
-impl Fault for LayFault {
-    ghost refusal = { lay_fault };
-
-    fn refusal(self) -> Refusal {
-        let (number, place) = match self {
-            LayFault::Planes => (1, 0),
-            LayFault::Side => (2, 0),
-            LayFault::Tape => (3, 0),
-            LayFault::Memory => (4, 0),
-            LayFault::Byte { index } => (5, index),
-        };
+impl Refusal {
+    // Names no place.
+    fn new(number: u8, word: Word) -> Refusal
+        ensures { result ≡ record { number = number; word = word; place = 0 } }
+    {
         Refusal {
             number,
-            word: Word::Lay,
-            place,
+            word,
+            place: 0,
+        }
+    }
+
+    fn at(self, place: usize) -> Refusal
+        ensures { result ≡ record self { place = place } }
+    {
+        Refusal { place, ..self }
+    }
+}
+
+impl From<LayFault> for Refusal {
+    ghost from_gives = { λ fault refusal. told refusal ≡ lay_fault fault };
+
+    fn from(fault: LayFault) -> Refusal {
+        match fault {
+            LayFault::Planes => Refusal::new(1, Word::Lay),
+            LayFault::Side => Refusal::new(2, Word::Lay),
+            LayFault::Tape => Refusal::new(3, Word::Lay),
+            LayFault::Memory => Refusal::new(4, Word::Lay),
+            LayFault::Byte { index } => Refusal::new(5, Word::Lay).at(index),
         }
     }
 }
 
-impl Fault for StrikeFault {
-    ghost refusal = { strike_fault };
+impl From<StrikeFault> for Refusal {
+    ghost from_gives = { λ fault refusal. told refusal ≡ strike_fault fault };
 
-    fn refusal(self) -> Refusal {
-        let number = match self {
-            StrikeFault::Bare => 6,
-            StrikeFault::Plane => 7,
-            StrikeFault::Place => 8,
-            StrikeFault::Byte => 9,
-        };
-        Refusal {
-            number,
-            word: Word::Strike,
-            place: 0,
+    fn from(fault: StrikeFault) -> Refusal {
+        match fault {
+            StrikeFault::Bare => Refusal::new(6, Word::Strike),
+            StrikeFault::Plane => Refusal::new(7, Word::Strike),
+            StrikeFault::Place => Refusal::new(8, Word::Strike),
+            StrikeFault::Byte => Refusal::new(9, Word::Strike),
         }
     }
 }
 
-impl Fault for BeatFault {
-    ghost refusal = { beat_fault };
+impl From<BeatFault> for Refusal {
+    ghost from_gives = { λ fault refusal. told refusal ≡ beat_fault fault };
 
-    fn refusal(self) -> Refusal {
-        let number = match self {
-            BeatFault::Bare => 6,
-            BeatFault::Age => 10,
-        };
-        Refusal {
-            number,
-            word: Word::Beat,
-            place: 0,
+    fn from(fault: BeatFault) -> Refusal {
+        match fault {
+            BeatFault::Bare => Refusal::new(6, Word::Beat),
+            BeatFault::Age => Refusal::new(10, Word::Beat),
         }
     }
 }
 
 // A fault of a record's strike keeps its number and its word, and gets the record's index for its place.
-impl Fault for RunFault {
-    ghost refusal = { run_fault };
+impl From<RunFault> for Refusal {
+    ghost from_gives = { λ fault refusal. told refusal ≡ run_fault fault };
 
-    fn refusal(self) -> Refusal {
-        let (number, place) = match self {
-            RunFault::Bare => (6, 0),
-            RunFault::Age => (10, 0),
-            RunFault::Script => (11, 0),
-            RunFault::Padding { record } => (12, record),
-            RunFault::Number { record } => (13, record),
-            RunFault::Order { record } => (14, record),
-            RunFault::Strike { record, fault } => {
-                return Refusal {
-                    place: record,
-                    ..fault.refusal()
-                };
-            }
-        };
-        Refusal {
-            number,
-            word: Word::Run,
-            place,
+    fn from(fault: RunFault) -> Refusal {
+        match fault {
+            RunFault::Bare => Refusal::new(6, Word::Run),
+            RunFault::Age => Refusal::new(10, Word::Run),
+            RunFault::Script => Refusal::new(11, Word::Run),
+            RunFault::Padding { record } => Refusal::new(12, Word::Run).at(record),
+            RunFault::Number { record } => Refusal::new(13, Word::Run).at(record),
+            RunFault::Order { record } => Refusal::new(14, Word::Run).at(record),
+            RunFault::Strike { record, fault } => Refusal::from(fault).at(record),
         }
     }
 }
 
-impl Fault for ReadFault {
-    ghost refusal = { read_fault };
+impl From<ReadFault> for Refusal {
+    ghost from_gives = { λ fault refusal. told refusal ≡ read_fault fault };
 
-    fn refusal(self) -> Refusal {
-        let (number, place) = match self {
-            ReadFault::Bare => (6, 0),
-            ReadFault::Output => (15, 0),
-            ReadFault::Majority { plane } => (16, plane),
-        };
-        Refusal {
-            number,
-            word: Word::Read,
-            place,
+    fn from(fault: ReadFault) -> Refusal {
+        match fault {
+            ReadFault::Bare => Refusal::new(6, Word::Read),
+            ReadFault::Output => Refusal::new(15, Word::Read),
+            ReadFault::Majority { plane } => Refusal::new(16, Word::Read).at(plane),
         }
     }
 }
 
-impl Fault for MapFault {
-    ghost refusal = { map_fault };
+impl From<MapFault> for Refusal {
+    ghost from_gives = { λ fault refusal. told refusal ≡ map_fault fault };
 
-    fn refusal(self) -> Refusal {
-        let number = match self {
-            MapFault::Bare => 6,
-            MapFault::Output => 15,
-        };
-        Refusal {
-            number,
-            word: Word::Map,
-            place: 0,
+    fn from(fault: MapFault) -> Refusal {
+        match fault {
+            MapFault::Bare => Refusal::new(6, Word::Map),
+            MapFault::Output => Refusal::new(15, Word::Map),
         }
     }
 }
 
-impl Fault for ShadowFault {
-    ghost refusal = { shadow_fault };
+impl From<ShadowFault> for Refusal {
+    ghost from_gives = { λ fault refusal. told refusal ≡ shadow_fault fault };
 
-    fn refusal(self) -> Refusal {
-        let number = match self {
-            ShadowFault::Bare => 6,
-            ShadowFault::Output => 15,
-        };
-        Refusal {
-            number,
-            word: Word::Shadow,
-            place: 0,
+    fn from(fault: ShadowFault) -> Refusal {
+        match fault {
+            ShadowFault::Bare => Refusal::new(6, Word::Shadow),
+            ShadowFault::Output => Refusal::new(15, Word::Shadow),
         }
     }
 }
 
-impl Fault for ReportFault {
-    ghost refusal = { report_fault };
+impl From<ReportFault> for Refusal {
+    ghost from_gives = { λ fault refusal. told refusal ≡ report_fault fault };
 
-    fn refusal(self) -> Refusal {
-        let number = match self {
-            ReportFault::Bare => 6,
-            ReportFault::Output => 15,
-        };
-        Refusal {
-            number,
-            word: Word::Report,
-            place: 0,
+    fn from(fault: ReportFault) -> Refusal {
+        match fault {
+            ReportFault::Bare => Refusal::new(6, Word::Report),
+            ReportFault::Output => Refusal::new(15, Word::Report),
         }
     }
 }
 
-impl Fault for MachineFault {
-    ghost refusal = { refusal_of };
+impl From<MachineFault> for Refusal {
+    ghost from_gives = { λ fault refusal. told refusal ≡ refusal_of fault };
 
-    fn refusal(self) -> Refusal {
-        let (number, place) = match self {
-            MachineFault::Header => (17, 0),
-            MachineFault::Length => (18, 0),
-            MachineFault::Next { entry } => (19, entry),
-            MachineFault::Symbol { entry } => (20, entry),
-            MachineFault::Move { entry } => (21, entry),
-            MachineFault::Padding { entry } => (22, entry),
-        };
-        Refusal {
-            number,
-            word: Word::Host,
-            place,
+    fn from(fault: MachineFault) -> Refusal {
+        match fault {
+            MachineFault::Header => Refusal::new(17, Word::Host),
+            MachineFault::Length => Refusal::new(18, Word::Host),
+            MachineFault::Next { entry } => Refusal::new(19, Word::Host).at(entry),
+            MachineFault::Symbol { entry } => Refusal::new(20, Word::Host).at(entry),
+            MachineFault::Move { entry } => Refusal::new(21, Word::Host).at(entry),
+            MachineFault::Padding { entry } => Refusal::new(22, Word::Host).at(entry),
         }
     }
 }
 
-impl Fault for HostFault {
-    ghost refusal = { host_fault };
+impl From<HostFault> for Refusal {
+    ghost from_gives = { λ fault refusal. told refusal ≡ host_fault fault };
 
-    fn refusal(self) -> Refusal {
-        match self {
-            HostFault::Rule => Refusal {
-                number: 27,
-                word: Word::Host,
-                place: 0,
-            },
-            HostFault::Machine(fault) => fault.refusal(),
+    fn from(fault: HostFault) -> Refusal {
+        match fault {
+            HostFault::Rule => Refusal::new(27, Word::Host),
+            HostFault::Machine(fault) => Refusal::from(fault),
         }
     }
 }
 
-impl Fault for RoundFault {
-    ghost refusal = { round_fault };
+impl From<RoundFault> for Refusal {
+    ghost from_gives = { λ fault refusal. told refusal ≡ round_fault fault };
 
-    fn refusal(self) -> Refusal {
-        let number = match self {
-            RoundFault::Header => 23,
-            RoundFault::Kind => 24,
-            RoundFault::Length => 25,
-            RoundFault::Copies => 26,
-        };
-        Refusal {
-            number,
-            word: Word::Round,
-            place: 0,
+    fn from(fault: RoundFault) -> Refusal {
+        match fault {
+            RoundFault::Header => Refusal::new(23, Word::Round),
+            RoundFault::Kind => Refusal::new(24, Word::Round),
+            RoundFault::Length => Refusal::new(25, Word::Round),
+            RoundFault::Copies => Refusal::new(26, Word::Round),
         }
     }
 }
 
-impl Fault for RefusedFault {
-    ghost refusal = { refused_fault };
+impl From<RefusedFault> for Refusal {
+    ghost from_gives = { λ fault refusal. told refusal ≡ refused_fault fault };
 
-    fn refusal(self) -> Refusal {
-        match self {
-            RefusedFault::Output => Refusal {
-                number: 15,
-                word: Word::Refused,
-                place: 0,
-            },
+    fn from(fault: RefusedFault) -> Refusal {
+        match fault {
+            RefusedFault::Output => Refusal::new(15, Word::Refused),
         }
     }
 }
 
-impl Fault for PlayFault {
-    ghost refusal = { play_fault };
+impl From<PlayFault> for Refusal {
+    ghost from_gives = { λ fault refusal. told refusal ≡ play_fault fault };
 
-    fn refusal(self) -> Refusal {
-        match self {
-            PlayFault::Round(fault) => fault.refusal(),
-            PlayFault::Report(fault) => fault.refusal(),
-            PlayFault::Host(fault) => fault.refusal(),
-            PlayFault::Lay(fault) => fault.refusal(),
-            PlayFault::Run(fault) => fault.refusal(),
+    fn from(fault: PlayFault) -> Refusal {
+        match fault {
+            PlayFault::Round(fault) => Refusal::from(fault),
+            PlayFault::Report(fault) => Refusal::from(fault),
+            PlayFault::Host(fault) => Refusal::from(fault),
+            PlayFault::Lay(fault) => Refusal::from(fault),
+            PlayFault::Run(fault) => Refusal::from(fault),
         }
     }
 }

@@ -5,12 +5,13 @@ ghost use Rattle.rounds.specs.Told.{told};
 ghost use Rattle.reports.specs.Text.{Appends, Fits};
 
 use crate::fault::RefusedFault;
-use crate::refusal::{Fault, Refusal};
+use crate::refusal::Refusal;
 use reports::text::Text;
 
 // An output that holds every such line.
 pub const REFUSED_BYTES: usize = 64;
 
+// By hand: of `write!` no contract says that it succeeds where there is room.
 fn refused_line(text: &mut Text<'_>, refusal: Refusal)
     requires { Fits text.old (refused_line (told refusal)) }
     ensures { Appends text.old (refused_line (told refusal)) text.new }
@@ -25,13 +26,12 @@ fn refused_line(text: &mut Text<'_>, refusal: Refusal)
 }
 
 // Writes `refused`, number, word and place at the front of the output, and answers the length of that line.
-pub fn refused<F: Fault>(fault: F, out: &mut [u8]) -> Result<usize, RefusedFault>
-    ensures { RefusedAnswers (F.refusal fault) result out.old out.new }
+pub fn refused(refusal: Refusal, out: &mut [u8]) -> Result<usize, RefusedFault>
+    ensures { RefusedAnswers (told refusal) result out.old out.new }
 {
     if out.len() < REFUSED_BYTES {
         return Err(RefusedFault::Output);
     }
-    let refusal = fault.refusal();
     let mut text = Text::new(out);
     refused_line(&mut text, refusal);
     Ok(text.len())

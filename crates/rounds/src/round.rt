@@ -1,8 +1,9 @@
 // A round, read in its file's own bytes.
-ghost use Rattle.std.specs.Prelude.{◌≡◌, ◌≤◌, length, Some, None, MatchResult};
+ghost use Rattle.std.specs.Prelude.{◌≡◌, Some, None, MatchResult};
 ghost use Rattle.rounds.specs.RoundFile.{kind_in, round_questions, round_fault, HeaderIn, RoundIn};
 
 use crate::fault::RoundFault;
+use crate::file_kind::FileKind;
 use runs::script::word;
 
 pub const HEADER_BYTES: usize = 9;
@@ -25,17 +26,17 @@ pub struct Round<'a> {
     pub script: &'a [u8],
 }
 
-// The number of the kind that a file says: 0 bits, 1 machine cells. An empty file says 0.
-pub fn kind(file: &[u8]) -> u8
+// The kind of cell that a file says. An empty file says bits.
+pub fn kind(file: &[u8]) -> FileKind
     ensures { result ≡ kind_in file.now }
 {
-    if file.is_empty() { 0 } else { file[0] >> 6 }
+    FileKind::from(file.first().map_or(0, |first| *first >> 6))
 }
 
 // The fields of the header; `host` and `script` are lengths.
 #[derive(Clone, Copy)]
 struct Header {
-    kind: u8,
+    kind: FileKind,
     side: usize,
     planes: usize,
     beats: u32,
@@ -43,14 +44,13 @@ struct Header {
     script: usize,
 }
 
-fn read_header(file: &[u8]) -> Header
-    requires { 9 ≤ length file.now }
-    ensures { HeaderIn file.now result }
+fn read_header(bytes: &[u8; HEADER_BYTES]) -> Header
+    ensures { HeaderIn bytes.now result }
 {
-    let first = file[0];
-    let rest = word(file, 1);
+    let first = bytes[0];
+    let rest = word(bytes, 1);
     Header {
-        kind: first >> 6,
+        kind: FileKind::from(first >> 6),
         side: (first & 0x3F) as usize + 1,
         planes: (rest >> 52) as usize + 1,
         beats: (rest >> 32 & 0xFFFFF) as u32,
@@ -61,31 +61,31 @@ fn read_header(file: &[u8]) -> Header
 
 impl<'a> Round<'a> {
     // The round of a file of this kind, or the first question that fails.
-    pub fn read(kind: u8, file: &'a [u8]) -> Result<Round<'a>, RoundFault>
+    pub fn read(kind: FileKind, file: &'a [u8]) -> Result<Round<'a>, RoundFault>
         ensures { MatchResult result (λ x. (round_questions kind file.now ≡ None) × RoundIn file.now x) (λ e. round_questions kind file.now ≡ Some (round_fault e)) }
     {
-        if file.len() < HEADER_BYTES {
+        let Some((header, rest)) = file.split_first_chunk() else {
             return Err(RoundFault::Header);
-        }
-        let header = read_header(file);
+        };
+        let header = read_header(header);
         if header.kind != kind {
             return Err(RoundFault::Kind);
         }
-        let tape = HEADER_BYTES + header.host;
-        let script = tape + header.planes;
-        if file.len() != script + header.script || file.len() > MAX_ROUND {
+        if rest.len() != header.host + header.planes + header.script || file.len() > MAX_ROUND {
             return Err(RoundFault::Length);
         }
         if header.planes * (header.side * header.side) > MAX_COPIES {
             return Err(RoundFault::Copies);
         }
+        let (host, rest) = rest.split_at(header.host);
+        let (tape, script) = rest.split_at(header.planes);
         Ok(Round {
             planes: header.planes,
             side: header.side,
             beats: header.beats,
-            host: &file[HEADER_BYTES..tape],
-            tape: &file[tape..script],
-            script: &file[script..],
+            host,
+            tape,
+            script,
         })
     }
 }

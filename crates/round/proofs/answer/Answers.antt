@@ -1,29 +1,13 @@
-use Rattle.std.proofs.Common.{◌≡◌, true, false, eqb, IfOk, sym, ◌∙◌, subst, MatchResult}
-use Rattle.std.proofs.lemmas.Bool.{eq-eqb, ne_eqb}
-use Rattle.rounds.specs.RoundFile.{kind_in}
-use Rattle.round.specs.Answer.{RepliedTo}
+use Rattle.rounds.specs.declared.file_kind.FileKind.TheVariants.{MachineCells}
+use Rattle.round.proofs.Answering.{answered_as, answered_as_bits}
 use Rattle.round.proofs.answer.Goals as goal
 
-pub returns-then-kind-eq-MACHINE_CELLS : goal.returns-then-kind-eq-MACHINE_CELLS
-returns-then-kind-eq-MACHINE_CELLS c =
-    let file = c.args.file.now in
-    let machine : eqb (kind_in file) 1 ≡ true = eq-eqb (kind_in file) 1 (sym c.kind.ensures ∙ c.if-kind-eq-MACHINE_CELLS.true) in
-    record {
-      answered =
-          subst (λ m. IfOk c.reply_of.result (λ n. RepliedTo m file n c.args.out.now c.reply_of.new.out)) (sym machine)
-          c.reply_of.ensures.replied;
-      within = c.reply_of.ensures.within;
-    }
+pub returns-in-MachineCells-clause-answered : goal.returns-in-MachineCells-clause-answered
+returns-in-MachineCells-clause-answered c =
+    answered_as c.args.file.now c.reply_of.result c.args.out.now c.reply_of.new.out c.kind.result c.kind.ensures MachineCells c.in-MachineCells.is
+    c.reply_of.ensures.replied
 
-pub returns-else-kind-eq-MACHINE_CELLS : goal.returns-else-kind-eq-MACHINE_CELLS
-returns-else-kind-eq-MACHINE_CELLS c =
-    let file = c.args.file.now in
-    let bits : eqb (kind_in file) 1 ≡ false = ne_eqb (kind_in file) 1 (λ is. c.if-kind-eq-MACHINE_CELLS.false (c.kind.ensures ∙ is)) in
-    record {
-      answered =
-          subst
-          (λ m. MatchResult c.reply_of-else-kind-eq-MACHINE_CELLS.result
-          (λ n. RepliedTo m file n c.args.out.now c.reply_of-else-kind-eq-MACHINE_CELLS.new.out) (λ _. Unit {0})) (sym bits)
-          c.reply_of-else-kind-eq-MACHINE_CELLS.ensures.replied;
-      within = c.reply_of-else-kind-eq-MACHINE_CELLS.ensures.within;
-    }
+pub returns-in-Bits-clause-answered : goal.returns-in-Bits-clause-answered
+returns-in-Bits-clause-answered c =
+    answered_as_bits c.args.file.now c.reply_of-in-Bits.result c.args.out.now c.reply_of-in-Bits.new.out c.kind.result c.kind.ensures c.in-Bits.is
+    c.reply_of-in-Bits.ensures.replied

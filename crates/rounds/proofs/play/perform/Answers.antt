@@ -7,8 +7,8 @@ use Rattle.reports.specs.ReportCall.{report_questions}
 use Rattle.rounds.proofs.Performing.{new_bare, report_passes}
 use Rattle.rounds.proofs.play.perform.Goals as goal
 
-pub returns-in_err-len : goal.returns-in_err-len
-returns-in_err-len g c =
+pub returns-in_err-report : goal.returns-in_err-report
+returns-in_err-report g c =
     let k = members g.C.PartialEq.eq g.C.Kind.byte_of g.C.Kind.cell_of in
     let r = c.args.round in
     let calls = calls_of_run (g.H.Host.meaning c.args.host.now) r.script.now r.beats in
@@ -18,7 +18,7 @@ returns-in_err-len g c =
     let heals = (c.in_ok-run.ensures.heals ((lay, true) ∷ []) laid.0).1 in
     absurd
     (not_both (report_questions b (length c.args.out.now)) _
-    (report_passes k calls r.planes r.side r.tape.now b heals (length c.args.out.now) c.requires.room) c.in_err-len.ensures.outcome.0)
+    (report_passes k calls r.planes r.side r.tape.now b heals (length c.args.out.now) c.requires.room) c.in_err-report.ensures.outcome.0)
 
 pub returns : goal.returns
 returns g c =
@@ -31,6 +31,6 @@ returns g c =
       played = board c.run.new.plate;
       lays = subst (λ b. Outcome k (Lay r.planes r.side r.tape.now) true b (board c.lay.new.self)) fresh c.in_ok-lay.ensures.outcome;
       runs = c.in_ok-run.ensures.outcome.1;
-      reports = c.in_ok-len.ensures.outcome.1;
+      reports = c.in_ok-report.ensures.outcome.1;
       memory = search rules;
     }

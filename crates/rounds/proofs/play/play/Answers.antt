@@ -7,7 +7,7 @@ use Rattle.rounds.proofs.play.play.Goals as goal
 pub perform-requires : goal.perform-requires
 perform-requires g c =
     let k = members g.C.PartialEq.eq g.C.Kind.byte_of g.C.Kind.cell_of in
-    let e = entrant g.H.Entry.number g.H.Entry.questions g.H.Entry.is_in g.H.Host.meaning in
+    let e = entrant g.H.Entry.kind g.H.Entry.questions g.H.Entry.is_in g.H.Host.meaning in
     let round = c.in_ok-round.round in
     let admitted = c.in_ok-round.ensures in
     record {
@@ -20,7 +20,7 @@ pub returns : goal.returns
 returns g c =
     let k = members g.C.PartialEq.eq g.C.Kind.byte_of g.C.Kind.cell_of in
     let met = g.met.C.Kind in
-    let e = entrant g.H.Entry.number g.H.Entry.questions g.H.Entry.is_in g.H.Host.meaning in
+    let e = entrant g.H.Entry.kind g.H.Entry.questions g.H.Entry.is_in g.H.Host.meaning in
     let admitted = c.in_ok-round.ensures in
     record {
       outcome =
