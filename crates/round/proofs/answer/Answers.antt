@@ -1,3 +1,5 @@
+use Rattle.std.proofs.Common.{refl}
+use Rattle.toom.specs.declared.bit.Bit.TheVariants.{Zero, One}
 use Rattle.rounds.specs.declared.file_kind.FileKind.TheVariants.{MachineCells}
 use Rattle.round.proofs.Answering.{answered_as, answered_as_bits}
 use Rattle.round.proofs.answer.Goals as goal
@@ -9,5 +11,6 @@ returns-in-MachineCells-clause-answered c =
 
 pub returns-in-Bits-clause-answered : goal.returns-in-Bits-clause-answered
 returns-in-Bits-clause-answered c =
-    answered_as_bits c.args.file.now c.reply_of-in-Bits.result c.args.out.now c.reply_of-in-Bits.new.out c.kind.result c.kind.ensures c.in-Bits.is
+    answered_as_bits c.args.file.now c.reply_of-in-Bits.result c.args.out.now c.reply_of-in-Bits.new.out c.kind.result c.kind.ensures _
+    (elim [ | Zero ↦ elim [ | Zero ↦ refl | One ↦ refl ] | One ↦ elim [ | Zero ↦ refl | One ↦ refl ] ]) c.in-Bits.is
     c.reply_of-in-Bits.ensures.replied
