@@ -9,7 +9,7 @@ use toom::kind::Kind;
 use toom::machine_cell::MachineCell;
 
 // The two-state busy beaver; state 3 stands still.
-const BEAVER: [u8; 13] = [
+pub(crate) const BEAVER: [u8; 13] = [
     0x31, 0x21, 0x80, 0x21, 0x40, 0x11, 0x40, 0x31, 0x80, 0x30, 0x00, 0x31, 0x00,
 ];
 

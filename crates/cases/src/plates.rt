@@ -1,5 +1,6 @@
 // Plates of bits and of machine cells: majorities, healing, a lone cell, a second lay.
 use crate::Unbuilt;
+use crate::machines::BEAVER;
 use crate::rings::step;
 use hosts::elementary::Elementary;
 use hosts::host::Host;
@@ -13,10 +14,6 @@ use std::test::Fail;
 use toom::bit::Bit;
 use toom::kind::Kind;
 use toom::machine_cell::MachineCell;
-
-const BEAVER: [u8; 13] = [
-    0x31, 0x21, 0x80, 0x21, 0x40, 0x11, 0x40, 0x31, 0x80, 0x30, 0x00, 0x31, 0x00,
-];
 
 // Strikes the first `count` copies of plane 0, row by row, on a plate of side 4.
 fn strike_first<C: Kind>(

@@ -9,6 +9,7 @@ pub(crate) fn step<C: Kind, H: Host<C>, const N: usize>(
     ring: [u8; N],
 ) -> Result<[u8; N], Unbuilt> {
     let mut after = ring;
+    // By index: a cell and both its neighbours are needed at once.
     for i in 0..N {
         let left = if i > 0 { i - 1 } else { N - 1 };
         let right = if i + 1 < N { i + 1 } else { 0 };

@@ -16,11 +16,8 @@ fn voted<C: Kind>(north: u8, east: u8, own: u8) -> Option<u8> {
 fn bits(rt: HostRuntime) {
     assert_eq!(rt; voted::<Bit>(1, 1, 0), Some(1));
     let majority = [0, 0, 0, 1, 0, 1, 1, 1];
-    for i in 0..8u8 {
-        assert_eq!(rt;
-            voted::<Bit>(i / 4, i / 2 % 2, i % 2),
-            Some(majority[i as usize])
-        );
+    for (i, vote) in (0..8u8).zip(majority) {
+        assert_eq!(rt; voted::<Bit>(i / 4, i / 2 % 2, i % 2), Some(vote));
     }
 }
 

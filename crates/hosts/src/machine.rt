@@ -9,7 +9,7 @@ pub mod file;
 pub mod rule;
 
 // The entry of state q and symbol s stands in slot 16 × q + s; a slot that no state and symbol have is empty: so a machine is its
-// numbers of states and symbols and its entries, and nothing else.
+// numbers of states and symbols and its entries, and nothing else. The table has its largest size, since nothing here allocates.
 #[derive(Clone, Copy)]
 pub struct Machine {
     states: u8,

@@ -11,7 +11,7 @@ use hosts::host::Host;
 use toom::kind::Kind;
 use toom::vote::vote;
 
-// The host that answers with the vote of north, east and own.
+// The host that answers with the vote of north, east and own. A host and no closure: clauses name a host's function, its meaning.
 struct Ballot;
 
 impl<C: Kind> Host<C> for Ballot {

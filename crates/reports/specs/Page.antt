@@ -13,6 +13,7 @@ use Rattle.reports.specs.Report.{ended, last_line, page, place_mark}
 abbrev pub marked_line : (hurts : List ℕ) → Shadow → (row : ℕ) → List ℕ
 marked_line hurts s row = ended (map (λ c. place_mark (slice_index hurts c) (marks s row c)) (range_with_len 0 s.side))
 
+-- The last line.
 abbrev pub reading_line : Result (Bor (List ℕ)) ℕ → List ℕ
 reading_line (Ok tape) = last_line None tape.now
 reading_line (Err plane) = last_line (Some (read_refusal 16 plane)) []

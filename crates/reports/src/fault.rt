@@ -4,6 +4,7 @@ ghost use Rattle.reports.specs.Faults.{from_map};
 
 use plate::fault::MapFault;
 
+// The cases are those of a map, but a call's fault type settles the word of its refusal.
 #[derive(Clone, Copy, PartialEq, Eq, Debug)]
 pub enum ReportFault {
     // The plate is not laid.

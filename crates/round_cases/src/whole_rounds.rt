@@ -87,8 +87,8 @@ fn check_play<C: Kind, H: Entry<C>>(
 // These are the bytes of the cells.
 fn check_cells<C: Kind>(rt: &impl Abort, cells: &[C], bytes: &[u8]) {
     assert!(rt; cells.len() == bytes.len());
-    for index in 0..bytes.len() {
-        assert_eq!(rt; cells[index].byte(), bytes[index], "cell {index}");
+    for (index, (cell, byte)) in cells.iter().zip(bytes).enumerate() {
+        assert_eq!(rt; cell.byte(), *byte, "cell {index}");
     }
 }
 

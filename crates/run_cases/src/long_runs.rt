@@ -15,6 +15,7 @@ use toom::machine_cell::MachineCell;
 // The ring of the faultless run after one step.
 fn step<C: Kind, H: Host<C>, const N: usize>(host: &H, ring: [C; N]) -> [C; N] {
     let mut after = ring;
+    // By index: a cell and both its neighbours are needed at once.
     for i in 0..N {
         let left = if i > 0 { i - 1 } else { N - 1 };
         let right = if i + 1 < N { i + 1 } else { 0 };
@@ -27,11 +28,10 @@ fn step<C: Kind, H: Host<C>, const N: usize>(host: &H, ring: [C; N]) -> [C; N] {
 fn hurt<C: Kind>(plate: &Plate<'_, C>) -> Result<u32, Fail> {
     let mut map = [0; 4096];
     plate.map(&mut map)?;
-    let mut sum = 0u32;
-    for count in map {
-        sum = sum.saturating_add(u32::from(count));
-    }
-    Ok(sum)
+    Ok(
+        map.iter()
+            .fold(0u32, |sum, count| sum.saturating_add(u32::from(*count))),
+    )
 }
 
 // The plate reads as the ring.
@@ -43,8 +43,8 @@ fn check_reading<C: Kind, const N: usize>(
     assert!(rt; N <= 4096);
     let mut out = [0; N];
     plate.read(&mut out)?;
-    for i in 0..N {
-        assert_eq!(rt; out[i], ring[i].byte(), "plane {i}");
+    for (i, (byte, cell)) in out.iter().zip(ring.iter()).enumerate() {
+        assert_eq!(rt; *byte, cell.byte(), "plane {i}");
     }
     Ok(())
 }
@@ -52,9 +52,9 @@ fn check_reading<C: Kind, const N: usize>(
 // A ring of blanks with a mark in each eighth cell.
 fn marked<C: Kind, const N: usize>(blank: C, mark: C) -> [C; N] {
     let mut ring = [blank; N];
-    for i in 0..N {
+    for (i, cell) in ring.iter_mut().enumerate() {
         if i % 8 == 1 {
-            ring[i] = mark;
+            *cell = mark;
         }
     }
     ring
@@ -71,8 +71,8 @@ fn long<C: Kind, H: Host<C>, const N: usize>(
 ) -> Result<(), Fail> {
     assert!(rt; N >= 4 && N <= 4096 && side >= 2 && side <= 64);
     let mut bytes = [0; N];
-    for i in 0..N {
-        bytes[i] = tape[i].byte();
+    for (byte, cell) in bytes.iter_mut().zip(tape.iter()) {
+        *byte = cell.byte();
     }
     let mut plate = Plate::new(cells);
     plate.lay(N, side, &bytes)?;

@@ -28,12 +28,8 @@ pub(crate) fn look_at<C: Kind>(plate: &Plate<'_, C>) -> Look {
     let _ = plate.map(&mut map);
     let mut bytes = [0; 3];
     let read = plate.read(&mut bytes);
-    let age = match plate.standing() {
-        Some(laid) => Some(laid.age),
-        None => None,
-    };
     Look {
-        age,
+        age: plate.standing().map(|laid| laid.age),
         shadow,
         map,
         read,

@@ -1,6 +1,7 @@
 // A kind of cell: two of its cells can be compared, each has a byte, and a byte may name a cell.
 ghost use Rattle.std.specs.Prelude.{◌≡◌, ℕ, ◌<◌, true, Some, Option};
 
+// `byte` and `from_byte` are no `From` and `TryFrom`: those tell by a relation what a conversion gives, and the laws need the functions.
 pub trait Kind: Copy + Eq {
     // A cell's byte.
     ghost byte_of: { Self → ℕ };

@@ -1,4 +1,5 @@
-// Rows of bits in 64-bit words, column 0 in the highest bit: the vote of a row, and a mark in one.
+// Rows of bits in 64-bit words, column 0 in the highest bit: the vote of a row, and a mark in one. A row is a plain word with the side beside it:
+// a struct of both would keep the side once for each row.
 ghost use Rattle.std.specs.Prelude.{◌≡◌, ℕ, ◌<◌, ◌≤◌, ◌||◌, length, ◌==◌, slice_index};
 ghost use Rattle.std.specs.List.{sum_by};
 ghost use Rattle.std.specs.Int.Count.{ones};
@@ -45,7 +46,8 @@ pub(crate) fn count_columns(rows: &[u64]) -> usize
     rows.iter().map(|row| row.count_ones() as usize).sum()
 }
 
-// Votes the rows of a torus. A row is voted before its southern one, so that both rows it needs are still old; the last needs the first.
+// Votes the rows of a torus. A row is voted before its southern one, so that both rows it needs are still old; the last needs the first. By index,
+// since a row is written while the next one is read.
 pub(crate) fn vote_rows(rows: &mut [u64], side: usize)
     requires side { Side side }
     requires within { side ≤ length rows.old }

@@ -10,7 +10,7 @@ pub const MIN_SIDE: usize = 2;
 pub const MAX_SIDE: usize = 64;
 
 // Column 0 is in the highest bit of a row. The bits past the side, and the rows past it, are zero: so a shadow is its side and its marked
-// places, and nothing else.
+// places, and nothing else. The rows are an array of the largest size, since nothing here allocates.
 #[derive(Clone, Copy, PartialEq, Eq)]
 pub struct Shadow {
     side: usize,

@@ -60,7 +60,7 @@ pub record WorkedExamples : Type 0 where
   pub row_of_two : row_word 4 (marked ((0, 0) ∷ (0, 1) ∷ []) 0) ≡ 0xC000_0000_0000_0000
   -- The record 00 00 10 01 08 20 00 00: number 1, plane 1, row 2, column 2, byte 00, spare 0.
   pub record_read : record_in (0x00 ∷ 0x00 ∷ 0x10 ∷ 0x01 ∷ 0x08 ∷ 0x20 ∷ 0x00 ∷ 0x00 ∷ []) 0
-      ≡ record { number = 1; plane = 1; row = 2; column = 2; byte = 0x00; spare = 0 }
+      ≡ record { number = 1; strike = record { plane = 1; row = 2; column = 2; byte = 0x00 }; spare = 0 }
   -- Side 4, bits, one plane of 16 copies that should be 0. With seven copies 1 the majority is 0, and the plane reads 00.
   pub seven_ones : (cells : List Bit) → OnesOfSixteen 7 cells
       → (majority_of equal_bits (plane_of cells 4 0) ≡ Some Zero) × (reading equal_bits byte_of_bit 1 4 cells ≡ 0x00 ∷ [])

@@ -1,13 +1,6 @@
-use Rattle.std.proofs.Common.{◌≡◌, ℕ, ◌+◌, ◌-◌, ◌≤◌, get_or, sym, subst, arith, rules}
-use Rattle.toom.specs.Rows.{Narrow}
+use Rattle.std.proofs.Common.{◌≡◌, ◌-◌, subst, arith, rules}
 use Rattle.toom.proofs.RowVotes.{VotedBelow, voted_more, voted_all}
 use Rattle.toom.proofs.rows.vote_rows.Goals as goal
-
-pub vote_row-requires : goal.vote_row-requires
-vote_row-requires c =
-    let old : (k : ℕ) → c.loop-r.r ≤ k → Narrow c.args.side (get_or c.loop-r.rows k 0) =
-    λ k h. subst (λ w. Narrow c.args.side w) (sym (c.loop-r.invariant.1 k h)) (c.requires.narrow k) in
-    record { side = c.requires.side; own = old c.loop-r.r (omega arith); north = old (c.loop-r.r + 1) (omega arith) }
 
 pub loop-r-preserved : goal.loop-r-preserved
 loop-r-preserved c =
