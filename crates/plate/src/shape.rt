@@ -1,4 +1,5 @@
-// The shape of a plate: how many planes it has and the side of each, which settle where its cells lie in the memory.
+// The shape of a plate: how many planes it has and the side of each, which settle where its cells lie in the memory. The
+// memory goes beside it: each function is passed the whole slice.
 ghost use Rattle.std.specs.Prelude.{◌≡◌, ◌*◌, ◌≤◌};
 ghost use Rattle.toom.specs.Rows.{Side};
 ghost use Rattle.plate.specs.Layout.{size_of};

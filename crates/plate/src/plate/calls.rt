@@ -1,5 +1,6 @@
 // The calls on a plate. Each does what its outcome says; and whatever history of calls reached the plate before it, with this call it reaches the
-// plate after it, where the healing laws hold.
+// plate after it, where the healing laws hold. `same` says of each that the memory is still the one that was lent: of a plate before and after,
+// so that no field of the plate could say it.
 ghost use Rattle.std.specs.Prelude.{◌≡◌, []};
 ghost use Rattle.plate.specs.Board.{standing};
 ghost use Rattle.plate.specs.Faults.{lay_fault, strike_fault, beat_fault, read_fault, map_fault, shadow_fault};
