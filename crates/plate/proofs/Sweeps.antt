@@ -1,6 +1,6 @@
 -- Parts of the memory that are written one after another.
 use Rattle.std.proofs.Common.{◌≡◌, ℕ, ◌+◌, ◌-◌, ◌<◌, ◌≤◌, ◌≢◌, ◌⊎◌, List, length, get_or, set, sym, ap, ◌∙◌, subst, inl, inr, arith}
-use Rattle.std.proofs.lemmas.List.{get_or-set_same, get_or-set_other}
+use Rattle.std.proofs.lemmas.List.{get_or-set_same, get_or-set_other, get_or_read}
 use Rattle.std.proofs.lemmas.Bool.{cases_lt}
 use Rattle.std.specs.List.{CopiedTo, SameBelow, SameFrom}
 use Rattle.plate.specs.Sweep.{Apart, Wanted, Swept}
@@ -71,6 +71,12 @@ module _ {C : Type 0} where
             let out : (k < to) ⊎ (to + m ≤ k) = elim h [ inl l ↦ inl l | inr g ↦ inr (omega arith) ] in
             b.outside k d past ∙ a.outside k d out;
       }
+
+  -- What is read at a place among those at `from` is still old.
+  pub read_old : (to from count n : ℕ) (wanted : Wanted C) (old xs : List C) (x : C) → Swept to n wanted old xs → Apart to from count
+      → n < count → from + count ≤ length xs → x ≡ get_or xs (from + n) x → (d : C) → x ≡ get_or old (from + n) d
+  read_old to from count n wanted old xs x w apart h within is d =
+      get_or_read xs (from + n) x (omega arith) is d ∙ w.outside (from + n) d (apart_out to from count apart n n h (omega arith))
 
   -- Below what is written all is old, at an index written another way.
   pub below_old : (to n : ℕ) (wanted : Wanted C) (old xs : List C) → Swept to n wanted old xs → (k m : ℕ) → k ≡ m → m < to → (d : C)
