@@ -4,10 +4,7 @@ use hosts::machine::fault::MachineFault;
 
 // What is wrong with the file, if anything is.
 fn fault(file: &[u8]) -> Option<MachineFault> {
-    match Machine::read(file) {
-        Ok(_) => None,
-        Err(fault) => Some(fault),
-    }
+    Machine::read(file).err()
 }
 
 #[test]

@@ -71,14 +71,12 @@ fn wounds<C: Kind>(plate: &Plate<'_, C>) -> Result<(u32, u32), Unbuilt> {
     if plate.shadow(&mut rows).is_err() || plate.map(&mut map).is_err() {
         return Err(Unbuilt);
     }
-    let mut marked = 0u32;
-    for row in rows {
-        marked = marked.saturating_add(row.count_ones());
-    }
-    let mut hurt = 0u32;
-    for count in map {
-        hurt = hurt.saturating_add(u32::from(count));
-    }
+    let marked = rows
+        .iter()
+        .fold(0u32, |sum, row| sum.saturating_add(row.count_ones()));
+    let hurt = map
+        .iter()
+        .fold(0u32, |sum, count| sum.saturating_add(u32::from(*count)));
     Ok((marked, hurt))
 }
 

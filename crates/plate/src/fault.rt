@@ -47,7 +47,8 @@ pub enum ReadFault {
     Majority { plane: usize },
 }
 
-// The cases of a map and of a shadow are alike, but a call's fault type settles the word of its refusal.
+// The cases of a map and of a shadow are alike, but a call's fault type settles the word of its refusal: one type for both would have to be told
+// the word wherever it is used.
 #[derive(Clone, Copy, PartialEq, Eq, Debug)]
 pub enum MapFault {
     Bare,

@@ -30,6 +30,7 @@ pub(crate) fn write_reading<C: Kind>(cells: &[C], shape: Shape, out: &mut [u8])
     ensures { out.new ≡ reading C.eq C.byte_of shape.planes shape.side cells.now ++ drop shape.planes out.old }
 {
     let planes = cells[..shape.copies()].chunks_exact(shape.area());
+    // Not `iter_mut` in a `zip`, after which a proof knows none of the bytes.
     for (i, plane) in planes.enumerate() {
         out[i] = majority(plane).map_or(0, |cell| cell.byte());
     }

@@ -47,7 +47,7 @@ fn fill<C: Kind, H: Host<C>>(
     }
 }
 
-// Votes the row at own, with the row at north north of it. East of the last column is the first.
+// Votes the row at own, with the row at north north of it. East of the last column is the first. The side and no shape: a row has no planes.
 fn vote_row<C: Kind>(cells: &mut [C], to: usize, north: usize, own: usize, side: usize)
     requires side { Side side }
     requires to { to + side ≤ length cells.old }

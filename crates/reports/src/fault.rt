@@ -4,7 +4,8 @@ ghost use Rattle.reports.specs.Faults.{from_map};
 
 use plate::fault::MapFault;
 
-// The cases are those of a map, but a call's fault type settles the word of its refusal.
+// The cases are those of a map, but a call's fault type settles the word of its refusal: one type for both would have to be told the word
+// wherever it is used.
 #[derive(Clone, Copy, PartialEq, Eq, Debug)]
 pub enum ReportFault {
     // The plate is not laid.

@@ -63,7 +63,7 @@ impl<'a> Text<'a> {
         self.push(b'0' + (n % 10) as u8);
     }
 
-    // The byte in hexadecimal.
+    // The byte in hexadecimal, by hand as well.
     pub fn push_pair(&mut self, byte: u8)
         requires { Fits self.old (pair byte) }
         ensures { Appends self.old (pair byte) self.new }

@@ -25,7 +25,7 @@ use toom::machine_cell::MachineCell;
 const INPUT_BYTES: usize = MAX_ROUND + 1;
 
 // Reads until the input ends or the buffer is full. Each read but the last gives a byte at least. By hand, since `read_to_end` allocates again
-// once its buffer is full, and `read_exact` fails if the input ends before that.
+// once its buffer is full, under `take` too, and `read_exact` fails if the input ends before that.
 fn fill<R: Read>(source: &mut R, buffer: &mut [u8]) -> anyhow::Result<usize>
     ensures within { IfOk result (λ n. n ≤ length buffer.new) }
     ensures long { length buffer.new ≡ length buffer.old }

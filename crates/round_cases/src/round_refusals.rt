@@ -21,20 +21,17 @@ const FILE: usize = 80;
 // Number, word and place of a refusal.
 type Told = (u8, Word, usize);
 
-// How many bytes of a file are played, two of them that are put in, each with its index, and what the play is refused for.
-type Case = (usize, [(usize, u8); 2], Told);
+// How many bytes of a file are played, up to two of them that are put in, each with its index, and what the play is refused for.
+type Case = (usize, [Option<(usize, u8)>; 2], Told);
 
-// Nothing is put in: there is no such index.
-const KEEP: (usize, u8) = (FILE, 0);
-
-// The play of a file, with two bytes put in, is refused for this; memory, all of one cell, and output are as they were.
+// The play of a file, with the bytes put in, is refused for this; memory, all of one cell, and output are as they were.
 fn refuse<C: Kind, H: Entry<C>>(
     rt: &impl Abort,
     memory: &mut [C],
     cell: C,
     out: &mut [u8],
     file: &[u8],
-    edits: [(usize, u8); 2],
+    edits: [Option<(usize, u8)>; 2],
     told: Told,
 ) -> Result<(), Fail> {
     let Err(fault) = play::<C, H>(memory, file, out) else {
@@ -58,17 +55,17 @@ fn refuse<C: Kind, H: Entry<C>>(
     Ok(())
 }
 
-// The file with zeros after it, and with two bytes put in.
-fn edited(file: &[u8], edits: [(usize, u8); 2]) -> [u8; FILE] {
+// The file with zeros after it, and with the bytes put in.
+fn edited(file: &[u8], edits: [Option<(usize, u8)>; 2]) -> [u8; FILE] {
     let mut bytes = [0; FILE];
-    for (index, byte) in file.iter().enumerate() {
-        if index < FILE {
-            bytes[index] = *byte;
-        }
+    for (place, byte) in bytes.iter_mut().zip(file) {
+        *place = *byte;
     }
-    for (index, byte) in edits {
-        if index < FILE {
-            bytes[index] = byte;
+    for edit in edits {
+        if let Some((index, byte)) = edit {
+            if index < FILE {
+                bytes[index] = byte;
+            }
         }
     }
     bytes
@@ -105,24 +102,24 @@ fn refuse_bits(
 #[test]
 fn files_of_bits(rt: HostRuntime) -> Result<(), Fail> {
     let cases = [
-        (0, [KEEP, KEEP], (23, Word::Round, 0)),
-        (8, [KEEP, KEEP], (23, Word::Round, 0)),
-        (44, [(0, 0x42), KEEP], (24, Word::Round, 0)),
-        (44, [(0, 0x82), KEEP], (24, Word::Round, 0)),
-        (44, [(0, 0xC2), KEEP], (24, Word::Round, 0)),
-        (43, [KEEP, KEEP], (25, Word::Round, 0)),
-        (45, [KEEP, KEEP], (25, Word::Round, 0)),
-        (44, [(6, 2), KEEP], (25, Word::Round, 0)),
-        (44, [(0, 0x00), KEEP], (2, Word::Lay, 0)),
-        (44, [(10, 2), KEEP], (5, Word::Lay, 0)),
-        (44, [(11, 0xFF), KEEP], (5, Word::Lay, 1)),
-        (44, [(10, 2), (11, 2)], (5, Word::Lay, 0)),
+        (0, [None, None], (23, Word::Round, 0)),
+        (8, [None, None], (23, Word::Round, 0)),
+        (44, [Some((0, 0x42)), None], (24, Word::Round, 0)),
+        (44, [Some((0, 0x82)), None], (24, Word::Round, 0)),
+        (44, [Some((0, 0xC2)), None], (24, Word::Round, 0)),
+        (43, [None, None], (25, Word::Round, 0)),
+        (45, [None, None], (25, Word::Round, 0)),
+        (44, [Some((6, 2)), None], (25, Word::Round, 0)),
+        (44, [Some((0, 0x00)), None], (2, Word::Lay, 0)),
+        (44, [Some((10, 2)), None], (5, Word::Lay, 0)),
+        (44, [Some((11, 0xFF)), None], (5, Word::Lay, 1)),
+        (44, [Some((10, 2)), Some((11, 2))], (5, Word::Lay, 0)),
         // The first that fails: 23 before 24, 24 before 25, lay before run.
-        (8, [(0, 0x82), KEEP], (23, Word::Round, 0)),
-        (43, [(0, 0x82), KEEP], (24, Word::Round, 0)),
-        (45, [(0, 0x42), KEEP], (24, Word::Round, 0)),
-        (44, [(0, 0x00), (43, 1)], (2, Word::Lay, 0)),
-        (44, [(11, 2), (43, 1)], (5, Word::Lay, 1)),
+        (8, [Some((0, 0x82)), None], (23, Word::Round, 0)),
+        (43, [Some((0, 0x82)), None], (24, Word::Round, 0)),
+        (45, [Some((0, 0x42)), None], (24, Word::Round, 0)),
+        (44, [Some((0, 0x00)), Some((43, 1))], (2, Word::Lay, 0)),
+        (44, [Some((11, 2)), Some((43, 1))], (5, Word::Lay, 1)),
     ];
     refuse_bits(
         &rt,
@@ -136,22 +133,22 @@ fn files_of_bits(rt: HostRuntime) -> Result<(), Fail> {
 #[test]
 fn scripts_of_bits(rt: HostRuntime) -> Result<(), Fail> {
     let cases = [
-        (43, [(8, 0x1F), KEEP], (11, Word::Run, 0)),
-        (45, [(8, 0x21), KEEP], (11, Word::Run, 0)),
-        (44, [(19, 1), KEEP], (12, Word::Run, 0)),
-        (44, [(42, 8), KEEP], (12, Word::Run, 3)),
-        (44, [(38, 0x20), KEEP], (13, Word::Run, 3)),
-        (44, [(36, 0x80), KEEP], (13, Word::Run, 3)),
-        (44, [(14, 0x10), KEEP], (14, Word::Run, 1)),
-        (44, [(15, 2), KEEP], (7, Word::Strike, 0)),
-        (44, [(39, 2), KEEP], (7, Word::Strike, 3)),
-        (44, [(16, 0x0C), KEEP], (8, Word::Strike, 0)),
-        (44, [(40, 0x0C), KEEP], (8, Word::Strike, 3)),
-        (44, [(41, 0x30), KEEP], (8, Word::Strike, 3)),
-        (44, [(18, 0x20), KEEP], (9, Word::Strike, 0)),
-        (44, [(41, 0x2F), KEEP], (9, Word::Strike, 3)),
+        (43, [Some((8, 0x1F)), None], (11, Word::Run, 0)),
+        (45, [Some((8, 0x21)), None], (11, Word::Run, 0)),
+        (44, [Some((19, 1)), None], (12, Word::Run, 0)),
+        (44, [Some((42, 8)), None], (12, Word::Run, 3)),
+        (44, [Some((38, 0x20)), None], (13, Word::Run, 3)),
+        (44, [Some((36, 0x80)), None], (13, Word::Run, 3)),
+        (44, [Some((14, 0x10)), None], (14, Word::Run, 1)),
+        (44, [Some((15, 2)), None], (7, Word::Strike, 0)),
+        (44, [Some((39, 2)), None], (7, Word::Strike, 3)),
+        (44, [Some((16, 0x0C)), None], (8, Word::Strike, 0)),
+        (44, [Some((40, 0x0C)), None], (8, Word::Strike, 3)),
+        (44, [Some((41, 0x30)), None], (8, Word::Strike, 3)),
+        (44, [Some((18, 0x20)), None], (9, Word::Strike, 0)),
+        (44, [Some((41, 0x2F)), None], (9, Word::Strike, 3)),
         // The earlier record.
-        (44, [(18, 0x20), (43, 1)], (9, Word::Strike, 0)),
+        (44, [Some((18, 0x20)), Some((43, 1))], (9, Word::Strike, 0)),
     ];
     refuse_bits(
         &rt,
@@ -167,18 +164,18 @@ fn scripts_of_bits(rt: HostRuntime) -> Result<(), Fail> {
 fn rooms_of_bits(rt: HostRuntime) -> Result<(), Fail> {
     let memory = (4, Word::Lay, 0);
     let cases = [
-        (44, [KEEP, KEEP], memory),
-        (44, [(10, 2), (43, 1)], memory),
-        (44, [(0, 0x00), KEEP], (2, Word::Lay, 0)),
+        (44, [None, None], memory),
+        (44, [Some((10, 2)), Some((43, 1))], memory),
+        (44, [Some((0, 0x00)), None], (2, Word::Lay, 0)),
     ];
     refuse_bits(&rt, &mut [Bit::One; 39], &mut [FILL; ROOM], SAMPLE, &cases)?;
     let output = (15, Word::Report, 0);
     let cases = [
-        (44, [KEEP, KEEP], output),
-        (44, [(0, 0x00), (43, 1)], output),
-        (43, [KEEP, KEEP], (25, Word::Round, 0)),
-        (44, [(0, 0x42), KEEP], (24, Word::Round, 0)),
-        (8, [KEEP, KEEP], (23, Word::Round, 0)),
+        (44, [None, None], output),
+        (44, [Some((0, 0x00)), Some((43, 1))], output),
+        (43, [None, None], (25, Word::Round, 0)),
+        (44, [Some((0, 0x42)), None], (24, Word::Round, 0)),
+        (8, [None, None], (23, Word::Round, 0)),
     ];
     refuse_bits(&rt, &mut [Bit::One; 39], &mut [FILL; SHORT], SAMPLE, &cases)
 }
@@ -193,11 +190,11 @@ const COPIES: &[u8; 15] = b"\x3F\x00\x40\x00\x00\x00\x01\x00\x00\xCC\x00\x00\x00
 fn rules(rt: HostRuntime) -> Result<(), Fail> {
     let rule = (27, Word::Host, 0);
     let cases = [
-        (13, [KEEP, KEEP], rule),
-        (11, [(6, 0), KEEP], rule),
+        (13, [None, None], rule),
+        (11, [Some((6, 0)), None], rule),
         // Before lay.
-        (13, [(0, 0x00), KEEP], rule),
-        (13, [(12, 2), KEEP], rule),
+        (13, [Some((0, 0x00)), None], rule),
+        (13, [Some((12, 2)), None], rule),
     ];
     refuse_bits(
         &rt,
@@ -206,7 +203,7 @@ fn rules(rt: HostRuntime) -> Result<(), Fail> {
         RULES,
         &cases,
     )?;
-    let output = (13, [KEEP, KEEP], (15, Word::Report, 0));
+    let output = (13, [None, None], (15, Word::Report, 0));
     refuse_bits(
         &rt,
         &mut [Bit::One; SAMPLE_CELLS],
@@ -220,15 +217,15 @@ fn rules(rt: HostRuntime) -> Result<(), Fail> {
 fn copies(rt: HostRuntime) -> Result<(), Fail> {
     let copies = (26, Word::Round, 0);
     let cases = [
-        (15, [KEEP, KEEP], copies),
+        (15, [None, None], copies),
         // Sides 58 and 57: 16,820 and 16,245 copies.
-        (15, [(0, 0x39), KEEP], copies),
-        (15, [(0, 0x38), KEEP], (4, Word::Lay, 0)),
+        (15, [Some((0, 0x39)), None], copies),
+        (15, [Some((0, 0x38)), None], (4, Word::Lay, 0)),
         // Four planes: just 16,384.
-        (14, [(2, 0x30), KEEP], (4, Word::Lay, 0)),
+        (14, [Some((2, 0x30)), None], (4, Word::Lay, 0)),
         // After 25, before 27 and 5.
-        (14, [KEEP, KEEP], (25, Word::Round, 0)),
-        (16, [(6, 2), (14, 2)], copies),
+        (14, [None, None], (25, Word::Round, 0)),
+        (16, [Some((6, 2)), Some((14, 2))], copies),
     ];
     refuse_bits(
         &rt,
@@ -237,7 +234,7 @@ fn copies(rt: HostRuntime) -> Result<(), Fail> {
         COPIES,
         &cases,
     )?;
-    let before = (15, [KEEP, KEEP], copies);
+    let before = (15, [None, None], copies);
     refuse_bits(
         &rt,
         &mut [Bit::One; SAMPLE_CELLS],
@@ -258,7 +255,7 @@ fn a_file_too_long(rt: HostRuntime) -> Result<(), Fail> {
     file[8] = 0xF0;
     let told = (25, Word::Round, 0);
     let (memory, out) = (&mut [Bit::One; 60], &mut [FILL; ROOM]);
-    refuse::<Bit, Elementary>(&rt, memory, Bit::One, out, &file, [KEEP; 2], told)
+    refuse::<Bit, Elementary>(&rt, memory, Bit::One, out, &file, [None; 2], told)
 }
 
 // The busy beaver's round, altered, over memory of one cell that is not of its tape.
@@ -275,22 +272,22 @@ fn refuse_machines<const N: usize>(
 #[test]
 fn files_of_machine_cells(rt: HostRuntime) -> Result<(), Fail> {
     let cases = [
-        (8, [KEEP, KEEP], (23, Word::Round, 0)),
-        (69, [(0, 0x04), KEEP], (24, Word::Round, 0)),
-        (69, [(0, 0x84), KEEP], (24, Word::Round, 0)),
-        (69, [(0, 0xC4), KEEP], (24, Word::Round, 0)),
-        (68, [KEEP, KEEP], (25, Word::Round, 0)),
-        (70, [KEEP, KEEP], (25, Word::Round, 0)),
+        (8, [None, None], (23, Word::Round, 0)),
+        (69, [Some((0, 0x04)), None], (24, Word::Round, 0)),
+        (69, [Some((0, 0x84)), None], (24, Word::Round, 0)),
+        (69, [Some((0, 0xC4)), None], (24, Word::Round, 0)),
+        (68, [None, None], (25, Word::Round, 0)),
+        (70, [None, None], (25, Word::Round, 0)),
         // Seven planes of sides 49 and 48: 16,807 and 16,128 copies.
-        (69, [(0, 0x70), KEEP], (26, Word::Round, 0)),
-        (69, [(0, 0x6F), KEEP], (4, Word::Lay, 0)),
-        (69, [(0, 0x40), KEEP], (2, Word::Lay, 0)),
+        (69, [Some((0, 0x70)), None], (26, Word::Round, 0)),
+        (69, [Some((0, 0x6F)), None], (4, Word::Lay, 0)),
+        (69, [Some((0, 0x40)), None], (2, Word::Lay, 0)),
         // The first that fails.
-        (8, [(0, 0x84), KEEP], (23, Word::Round, 0)),
-        (68, [(0, 0x04), KEEP], (24, Word::Round, 0)),
-        (68, [(0, 0x70), KEEP], (25, Word::Round, 0)),
-        (69, [(0, 0x70), (9, 0x30)], (26, Word::Round, 0)),
-        (69, [(0, 0x40), (68, 1)], (2, Word::Lay, 0)),
+        (8, [Some((0, 0x84)), None], (23, Word::Round, 0)),
+        (68, [Some((0, 0x04)), None], (24, Word::Round, 0)),
+        (68, [Some((0, 0x70)), None], (25, Word::Round, 0)),
+        (69, [Some((0, 0x70)), Some((9, 0x30))], (26, Word::Round, 0)),
+        (69, [Some((0, 0x40)), Some((68, 1))], (2, Word::Lay, 0)),
     ];
     refuse_machines::<BEAVER_CELLS>(&rt, &mut [FILL; ROOM], &cases)
 }
@@ -298,23 +295,27 @@ fn files_of_machine_cells(rt: HostRuntime) -> Result<(), Fail> {
 #[test]
 fn machines(rt: HostRuntime) -> Result<(), Fail> {
     let cases = [
-        (56, [(6, 0), KEEP], (17, Word::Host, 0)),
-        (69, [(9, 0x01), KEEP], (17, Word::Host, 0)),
-        (69, [(9, 0x30), KEEP], (17, Word::Host, 0)),
-        (69, [(9, 0x21), KEEP], (18, Word::Host, 0)),
-        (69, [(10, 0x01), KEEP], (19, Word::Host, 0)),
-        (69, [(20, 0x41), KEEP], (19, Word::Host, 5)),
-        (69, [(10, 0x22), KEEP], (20, Word::Host, 0)),
-        (69, [(20, 0x32), KEEP], (20, Word::Host, 5)),
-        (69, [(11, 0xC0), KEEP], (21, Word::Host, 0)),
-        (69, [(21, 0xC0), KEEP], (21, Word::Host, 5)),
-        (69, [(11, 0x81), KEEP], (22, Word::Host, 0)),
-        (69, [(21, 0x20), KEEP], (22, Word::Host, 5)),
+        (56, [Some((6, 0)), None], (17, Word::Host, 0)),
+        (69, [Some((9, 0x01)), None], (17, Word::Host, 0)),
+        (69, [Some((9, 0x30)), None], (17, Word::Host, 0)),
+        (69, [Some((9, 0x21)), None], (18, Word::Host, 0)),
+        (69, [Some((10, 0x01)), None], (19, Word::Host, 0)),
+        (69, [Some((20, 0x41)), None], (19, Word::Host, 5)),
+        (69, [Some((10, 0x22)), None], (20, Word::Host, 0)),
+        (69, [Some((20, 0x32)), None], (20, Word::Host, 5)),
+        (69, [Some((11, 0xC0)), None], (21, Word::Host, 0)),
+        (69, [Some((21, 0xC0)), None], (21, Word::Host, 5)),
+        (69, [Some((11, 0x81)), None], (22, Word::Host, 0)),
+        (69, [Some((21, 0x20)), None], (22, Word::Host, 5)),
         // The earlier entry; before lay; before run.
-        (69, [(11, 0x81), (20, 0x41)], (22, Word::Host, 0)),
-        (69, [(0, 0x40), (9, 0x30)], (17, Word::Host, 0)),
-        (69, [(0, 0x40), (21, 0x20)], (22, Word::Host, 5)),
-        (69, [(9, 0x21), (68, 1)], (18, Word::Host, 0)),
+        (
+            69,
+            [Some((11, 0x81)), Some((20, 0x41))],
+            (22, Word::Host, 0),
+        ),
+        (69, [Some((0, 0x40)), Some((9, 0x30))], (17, Word::Host, 0)),
+        (69, [Some((0, 0x40)), Some((21, 0x20))], (22, Word::Host, 5)),
+        (69, [Some((9, 0x21)), Some((68, 1))], (18, Word::Host, 0)),
     ];
     refuse_machines::<BEAVER_CELLS>(&rt, &mut [FILL; ROOM], &cases)
 }
@@ -323,18 +324,18 @@ fn machines(rt: HostRuntime) -> Result<(), Fail> {
 #[test]
 fn scripts_of_machine_cells(rt: HostRuntime) -> Result<(), Fail> {
     let cases = [
-        (68, [(8, 0x27), KEEP], (11, Word::Run, 0)),
-        (70, [(8, 0x29), KEEP], (11, Word::Run, 0)),
-        (69, [(36, 1), KEEP], (12, Word::Run, 0)),
-        (69, [(67, 8), KEEP], (12, Word::Run, 4)),
-        (69, [(63, 0x70), KEEP], (13, Word::Run, 4)),
-        (69, [(31, 0x10), KEEP], (14, Word::Run, 1)),
-        (69, [(32, 7), KEEP], (7, Word::Strike, 0)),
-        (69, [(64, 7), KEEP], (7, Word::Strike, 4)),
-        (69, [(33, 0x14), KEEP], (8, Word::Strike, 0)),
-        (69, [(66, 0x52), KEEP], (8, Word::Strike, 4)),
+        (68, [Some((8, 0x27)), None], (11, Word::Run, 0)),
+        (70, [Some((8, 0x29)), None], (11, Word::Run, 0)),
+        (69, [Some((36, 1)), None], (12, Word::Run, 0)),
+        (69, [Some((67, 8)), None], (12, Word::Run, 4)),
+        (69, [Some((63, 0x70)), None], (13, Word::Run, 4)),
+        (69, [Some((31, 0x10)), None], (14, Word::Run, 1)),
+        (69, [Some((32, 7)), None], (7, Word::Strike, 0)),
+        (69, [Some((64, 7)), None], (7, Word::Strike, 4)),
+        (69, [Some((33, 0x14)), None], (8, Word::Strike, 0)),
+        (69, [Some((66, 0x52)), None], (8, Word::Strike, 4)),
         // The earlier record.
-        (69, [(33, 0x14), (68, 1)], (8, Word::Strike, 0)),
+        (69, [Some((33, 0x14)), Some((68, 1))], (8, Word::Strike, 0)),
     ];
     refuse_machines::<BEAVER_CELLS>(&rt, &mut [FILL; ROOM], &cases)
 }
@@ -343,18 +344,18 @@ fn scripts_of_machine_cells(rt: HostRuntime) -> Result<(), Fail> {
 fn rooms_of_machine_cells(rt: HostRuntime) -> Result<(), Fail> {
     let memory = (4, Word::Lay, 0);
     let cases = [
-        (69, [KEEP, KEEP], memory),
-        (69, [(68, 1), KEEP], memory),
-        (69, [(9, 0x30), KEEP], (17, Word::Host, 0)),
-        (69, [(0, 0x40), KEEP], (2, Word::Lay, 0)),
+        (69, [None, None], memory),
+        (69, [Some((68, 1)), None], memory),
+        (69, [Some((9, 0x30)), None], (17, Word::Host, 0)),
+        (69, [Some((0, 0x40)), None], (2, Word::Lay, 0)),
     ];
     refuse_machines::<363>(&rt, &mut [FILL; ROOM], &cases)?;
     let output = (15, Word::Report, 0);
     let cases = [
-        (69, [KEEP, KEEP], output),
-        (69, [(9, 0x30), (68, 1)], output),
-        (69, [(0, 0x70), KEEP], (26, Word::Round, 0)),
-        (8, [KEEP, KEEP], (23, Word::Round, 0)),
+        (69, [None, None], output),
+        (69, [Some((9, 0x30)), Some((68, 1))], output),
+        (69, [Some((0, 0x70)), None], (26, Word::Round, 0)),
+        (8, [None, None], (23, Word::Round, 0)),
     ];
     refuse_machines::<363>(&rt, &mut [FILL; SHORT], &cases)
 }

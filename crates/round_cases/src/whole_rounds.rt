@@ -15,33 +15,33 @@ use toom::machine_cell::MachineCell;
 
 #[test]
 fn kinds_of_files(rt: HostRuntime) {
-    assert_eq!(rt; kind(&[]), FileKind::from(0));
-    for (first, number) in [
-        (0x00, 0),
-        (0x3F, 0),
-        (0x40, 1),
-        (0x7F, 1),
-        (0x80, 2),
-        (0xBF, 2),
-        (0xC0, 3),
-        (0xFF, 3),
+    assert_eq!(rt; kind(&[]), FileKind::Bits);
+    for (first, said) in [
+        (0x00, FileKind::Bits),
+        (0x3F, FileKind::Bits),
+        (0x40, FileKind::MachineCells),
+        (0x7F, FileKind::MachineCells),
+        (0x80, FileKind::Other(2)),
+        (0xBF, FileKind::Other(2)),
+        (0xC0, FileKind::Other(3)),
+        (0xFF, FileKind::Other(3)),
     ] {
-        assert_eq!(rt; kind(&[first]), FileKind::from(number));
-        assert_eq!(rt; kind(&[first, 0xFF]), FileKind::from(number));
+        assert_eq!(rt; kind(&[first]), said);
+        assert_eq!(rt; kind(&[first, 0xFF]), said);
     }
 }
 
 // The fields of a round that a file is read as: planes, side and beats, then host, tape and script.
 fn check_round(
     rt: &impl Abort,
-    kind: u8,
+    kind: FileKind,
     file: &[u8],
     shape: (usize, usize, u32),
     host: &[u8],
     tape: &[u8],
     script: &[u8],
 ) -> Result<(), Fail> {
-    let round = Round::read(FileKind::from(kind), file)?;
+    let round = Round::read(kind, file)?;
     assert_eq!(rt; (round.planes, round.side, round.beats), shape);
     assert_eq!(rt; round.host, host);
     assert_eq!(rt; round.tape, tape);
@@ -53,10 +53,18 @@ fn check_round(
 #[test]
 fn rounds_read(rt: HostRuntime) -> Result<(), Fail> {
     let sample = *SAMPLE;
-    check_round(&rt, 0, &sample, (2, 3, 1), &[0xCC], &[1, 0], &sample[12..])?;
     check_round(
         &rt,
-        0,
+        FileKind::Bits,
+        &sample,
+        (2, 3, 1),
+        &[0xCC],
+        &[1, 0],
+        &sample[12..],
+    )?;
+    check_round(
+        &rt,
+        FileKind::Bits,
         &[0x3F, 0, 0, 0, 0, 0, 0, 0, 0, 5],
         (1, 64, 0),
         &[],
@@ -64,11 +72,27 @@ fn rounds_read(rt: HostRuntime) -> Result<(), Fail> {
         &[],
     )?;
     let ages = [0xC0, 0, 0x0F, 0xFF, 0xFF, 0, 0, 0, 0, 5];
-    check_round(&rt, 3, &ages, (1, 1, 1_048_575), &[], &[5], &[])?;
+    check_round(
+        &rt,
+        FileKind::Other(3),
+        &ages,
+        (1, 1, 1_048_575),
+        &[],
+        &[5],
+        &[],
+    )?;
     let mut planes = [0; 4105];
     planes[1] = 0xFF;
     planes[2] = 0xF0;
-    check_round(&rt, 0, &planes, (4096, 1, 0), &[], &[0; 4096], &[])
+    check_round(
+        &rt,
+        FileKind::Bits,
+        &planes,
+        (4096, 1, 0),
+        &[],
+        &[0; 4096],
+        &[],
+    )
 }
 
 // The play is accepted, and its report is this text.

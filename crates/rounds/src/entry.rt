@@ -37,7 +37,7 @@ pub trait Entry<C>: Host<C> + Copy {
     ghost once: { (bytes : List ℕ) (x y : Self) → is_in bytes x → is_in bytes y → x ≡ y };
 }
 
-// One byte, Wolfram's number of the rule.
+// Kind 0: one byte, Wolfram's number of the rule.
 impl Entry<Bit> for Elementary {
     ghost kind = { Bits };
 
@@ -59,7 +59,7 @@ impl Entry<Bit> for Elementary {
     }
 }
 
-// A machine file.
+// Kind 1: a machine file.
 impl Entry<MachineCell> for Machine {
     ghost kind = { MachineCells };
 

@@ -1,4 +1,4 @@
-// Why a round is refused.
+// Why a round is refused. Conversions are by hand, and not by `thiserror`: clauses name the fault that a `?` makes.
 ghost use Rattle.std.specs.Prelude.{◌≡◌};
 ghost use Rattle.rounds.specs.declared.fault.HostFault.TheVariants.{Machine};
 ghost use Rattle.rounds.specs.declared.fault.PlayFault.TheVariants as plays;
@@ -28,8 +28,6 @@ pub enum HostFault {
     Rule,
     Machine(MachineFault),
 }
-
-// Conversions by hand, and not by `thiserror`: clauses name the fault that a `?` makes.
 
 impl From<MachineFault> for HostFault {
     ghost from_gives = { λ e r. r ≡ Machine e };

@@ -6,11 +6,11 @@ ghost use Rattle.rounds.specs.FileKind.{file_kind};
 pub enum FileKind {
     Bits,
     MachineCells,
-    // A number that no host has.
+    // A number that no host has: of the numbers 0 and 1, which can be written here, no file gives this case.
     Other(u8),
 }
 
-// Each number is a kind of its own.
+// The kind of this number: 0 bits, 1 machine cells.
 impl From<u8> for FileKind {
     ghost from_gives = { λ number kind. kind ≡ file_kind number };
 

@@ -33,7 +33,7 @@ pub enum Word {
 }
 
 impl Word {
-    // Not by `Display`: the line of a refusal takes its words as `&str`.
+    // Not by `Display`: the line of a refusal is written without `write!`, which by its contract may fail.
     pub fn text(self) -> &'static str
         ensures { result.now ≡ word_text self }
     {

@@ -11,7 +11,7 @@ use crate::refusal::Refusal;
 use crate::refused::refused;
 use toom::kind::Kind;
 
-// Answers the length written.
+// Answers the length written. `within` holds the answer against the output, so no type of either could say it.
 pub fn reply<C: Kind, H: Entry<C>>(
     memory: &mut [C],
     file: &[u8],

@@ -26,7 +26,7 @@ pub struct Round<'a> {
     pub script: &'a [u8],
 }
 
-// The kind of cell that a file says. An empty file says bits.
+// The kind of cell that a file says in its first two bits: 0 bits, 1 machine cells, 2 and 3 no host's. An empty file says bits.
 pub fn kind(file: &[u8]) -> FileKind
     ensures { result ≡ kind_in file.now }
 {

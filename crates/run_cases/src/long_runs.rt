@@ -12,7 +12,7 @@ use toom::bit::Bit;
 use toom::kind::Kind;
 use toom::machine_cell::MachineCell;
 
-// The ring of the faultless run after one step.
+// The ring of the faultless run after one step, in cells; that of `cases` is in bytes, as its tables are.
 fn step<C: Kind, H: Host<C>, const N: usize>(host: &H, ring: [C; N]) -> [C; N] {
     let mut after = ring;
     // By index: a cell and both its neighbours are needed at once.
@@ -49,6 +49,21 @@ fn check_reading<C: Kind, const N: usize>(
     Ok(())
 }
 
+// The bytes of the cells of a ring.
+fn bytes_of<C: Kind, const N: usize>(ring: &[C; N]) -> [u8; N] {
+    let mut bytes = [0; N];
+    for (byte, cell) in bytes.iter_mut().zip(ring.iter()) {
+        *byte = cell.byte();
+    }
+    bytes
+}
+
+// One of the two cells that is not this one.
+fn other<C: Kind>(cell: C, two: [C; 2]) -> C {
+    let [first, second] = two;
+    if cell == first { second } else { first }
+}
+
 // A ring of blanks with a mark in each eighth cell.
 fn marked<C: Kind, const N: usize>(blank: C, mark: C) -> [C; N] {
     let mut ring = [blank; N];
@@ -70,19 +85,11 @@ fn long<C: Kind, H: Host<C>, const N: usize>(
     wrong: [C; 2],
 ) -> Result<(), Fail> {
     assert!(rt; N >= 4 && N <= 4096 && side >= 2 && side <= 64);
-    let mut bytes = [0; N];
-    for (byte, cell) in bytes.iter_mut().zip(tape.iter()) {
-        *byte = cell.byte();
-    }
     let mut plate = Plate::new(cells);
-    plate.lay(N, side, &bytes)?;
+    plate.lay(N, side, &bytes_of(&tape))?;
     let mut ring = tape;
     for lap in 0..4usize {
-        let cell = if ring[lap] == wrong[0] {
-            wrong[1]
-        } else {
-            wrong[0]
-        };
+        let cell = other(ring[lap], wrong);
         let early = strike(0, lap, lap / 2, lap % 2, cell.byte()).to_be_bytes();
         run(&mut plate, host, &early, 0)?;
         assert_eq!(rt; hurt(&plate)?, 1);

@@ -16,6 +16,7 @@ pub(crate) struct Look {
     pub age: Option<u32>,
     pub shadow: [u64; 4],
     pub map: [u16; 16],
+    // The output of the read as well where it is refused, since it has to be as it was.
     pub read: Result<(), ReadFault>,
     pub bytes: [u8; 3],
 }

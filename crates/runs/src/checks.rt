@@ -1,4 +1,4 @@
-// The questions of a run that need no plate: they are of the shape, the age and the kind.
+// The questions of a run that need no plate: they are of the shape, the age and the kind. The shape is plain numbers, which may be none.
 ghost use Rattle.std.specs.Prelude.{◌≡◌, Some, None, MatchResult};
 ghost use Rattle.runs.specs.RunCall.{record_asked, script_questions, shape_questions};
 ghost use Rattle.runs.specs.RunFaults.{run_fault};

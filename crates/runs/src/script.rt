@@ -9,6 +9,7 @@ use crate::record::Record;
 // The bytes of one record.
 pub const RECORD_BYTES: usize = 8;
 
+// The slice and an index, which the clauses of `new` name.
 #[derive(Drop)]
 pub struct Script<'a> {
     bytes: &'a [u8],

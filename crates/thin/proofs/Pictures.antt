@@ -1,16 +1,10 @@
 -- Text that grows by one mark, by one row and by one frame.
-use Rattle.std.proofs.Common.{◌≡◌, ℕ, ◌+◌, Bool, cond, List, [], ◌∷◌, ◌++◌, is_ok, IfOk, Ok, Err, Result, sym, ap, ◌∙◌, arith}
+use Rattle.std.proofs.Common.{◌≡◌, ℕ, ◌+◌, Bool, List, [], ◌∷◌, ◌++◌, sym, ap, ◌∙◌, arith}
 use Rattle.std.specs.List.{range_with_len, flat_map}
 use Rattle.std.proofs.lemmas.List.FromFn.{map-range_with_len_more}
 use Rattle.std.proofs.lemmas.List.{append_assoc, flat_map_more, map-id}
 use Rattle.toom.specs.Torus.{Plane}
 use Rattle.thin.specs.Picture.{mark, row_marks}
-
--- What a push that may fail leaves, where it succeeds.
-pub pushed_last : {X E : Type 0} (r : Result X E) {after whole : List ℕ} (was more : List ℕ)
-    → was ++ more ≡ whole → after ≡ cond (is_ok r) (was ++ more) was → IfOk r (λ _. after ≡ whole)
-pushed_last (Ok x) was more e h = h ∙ e
-pushed_last (Err d) was more e h = tt
 
 pub row_more : (plane : Plane Bool) (row n : ℕ) {after : List ℕ} (before more : List ℕ)
     → after ≡ (before ++ row_marks plane row n) ++ more → more ≡ mark (plane row n) ∷ []
@@ -31,9 +25,3 @@ joined_counting f before n =
 pub joined_more_row : (f : ℕ → List ℕ) (before : List ℕ) (n : ℕ) {was after : List ℕ}
     → was ≡ before ++ flat_map f (range_with_len 0 n) → after ≡ was ++ f n → after ≡ before ++ flat_map f (range_with_len 0 (n + 1))
 joined_more_row f before n e h = h ∙ ap (λ l. l ++ f n) e ∙ joined_counting f before n
-
--- One piece after another, where the last may fail.
-pub then_last : {X E : Type 0} (r : Result X E) {was : List ℕ} (after before front more : List ℕ)
-    → was ≡ before ++ front → IfOk r (λ _. after ≡ was ++ more) → IfOk r (λ _. after ≡ before ++ (front ++ more))
-then_last (Ok x) after before front more e h = h ∙ ap (λ l. l ++ more) e ∙ append_assoc before front more
-then_last (Err d) after before front more e h = tt

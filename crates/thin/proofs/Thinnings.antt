@@ -1,7 +1,7 @@
 -- A thinning, vote by vote.
 use Rattle.std.proofs.Common.{◌≡◌, ℕ, ◌+◌, ◌*◌, ◌<◌, ◌≤◌, Bool, false, List, [], ◌++◌, sym, refl, ap, ◌∙◌, subst, ap₂, inl, inr, add-one, arith, below_more}
 use Rattle.std.proofs.lemmas.Bool.{cases_lt, false≢true}
-use Rattle.toom.proofs.EqualShadows.{equal_shadows_decides}
+use Rattle.toom.specs.EqualShadows.{equal_shadows_decides}
 use Rattle.toom.specs.declared.shadow.Shadow.{Shadow}
 use Rattle.toom.specs.Shadow.{marks, equal_shadows, IsShadow, MarksPin}
 use Rattle.toom.specs.ShadowCalls.{Voted}

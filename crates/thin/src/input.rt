@@ -1,11 +1,10 @@
 // The shadow that a text describes: its side on the first line, then a place a line.
-ghost use Rattle.std.specs.Prelude.{◌≡◌, not, ◌∷◌, Some, Ok, Err, MatchResult};
-ghost use Rattle.std.specs.Option.{option_map};
+ghost use Rattle.std.specs.Prelude.{◌≡◌, not, Some};
 ghost use Rattle.std.specs.List.{position};
 ghost use Rattle.thin.specs.Fault.{cause_text, fault_text};
 ghost use Rattle.thin.specs.Input.{Reads};
 ghost use Rattle.thin.specs.InputCalls.{WordCut, NumberRead, SideRead, PlaceMarked};
-ghost use Rattle.thin.specs.Words.{ends_line, lines, later_lines, is_blank};
+ghost use Rattle.thin.specs.Words.{is_blank};
 
 use crate::lines::{Lines, cut_line};
 use std::fmt;

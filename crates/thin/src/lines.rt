@@ -14,7 +14,7 @@ fn line_end(text: &[u8]) -> Option<usize>
 }
 
 // The first line, and what follows its end if it has one.
-pub fn cut_line(text: &[u8]) -> (&[u8], Option<&[u8]>)
+pub(crate) fn cut_line(text: &[u8]) -> (&[u8], Option<&[u8]>)
     ensures { lines text.now ≡ result.0.now ∷ later_lines (option_map (λ x. x.now) result.1) }
 {
     match line_end(text) {
@@ -25,8 +25,8 @@ pub fn cut_line(text: &[u8]) -> (&[u8], Option<&[u8]>)
 
 // Gives the lines of what is left to read, which is nothing after the last line.
 #[derive(Drop)]
-pub struct Lines<'a> {
-    pub rest: Option<&'a [u8]>,
+pub(crate) struct Lines<'a> {
+    pub(crate) rest: Option<&'a [u8]>,
 }
 
 impl<'a> Iterator for Lines<'a> {

@@ -1,5 +1,4 @@
 pub mod Columns
-pub mod EqualShadows
 pub mod FullLines
 pub mod Inclusions
 pub mod Modular

@@ -7,7 +7,7 @@ use Rattle.std.proofs.lemmas.List.FromFn.{fill_by_all}
 use Rattle.std.proofs.lemmas.List.{ext_get_or, get_or-take, length-take-le, take_more}
 use Rattle.std.proofs.lemmas.Bool.{cases_lt}
 use Rattle.toom.specs.declared.shadow.Shadow.{Shadow}
-use Rattle.toom.proofs.EqualShadows.{shadows_equal}
+use Rattle.toom.specs.EqualShadows.{shadows_equal}
 use Rattle.toom.specs.Rows.{row_word}
 use Rattle.toom.specs.Shadow.{marks, words_of, IsShadow, MarksPin}
 use Rattle.toom.specs.Torus.{Plane, total, count_marks}

@@ -1,4 +1,5 @@
 pub mod Bit
+pub mod EqualShadows
 pub mod Inclusion
 pub mod Lines
 pub mod MachineCell

@@ -32,7 +32,8 @@ impl<'a, C: Kind> Plate<'a, C> {
             .filter(|laid| laid.shape().size() <= self.cells.len())
     }
 
-    // Every copy, voted copy and line cell becomes the cell that the tape names; the shadow is empty, the age 0.
+    // Every copy, voted copy and line cell becomes the cell that the tape names; the shadow is empty, the age 0. The shape is plain numbers, which
+    // may be none: that is asked.
     pub fn lay(&mut self, planes: usize, side: usize, tape: &[u8]) -> Result<(), LayFault>
         ensures outcome { Answers (members C.eq C.byte_of C.cell_of) lay_fault (Lay planes side tape.now) result (board self.old) (board self.new) }
         ensures heals { GoesOn (members C.eq C.byte_of C.cell_of) (Lay planes side tape.now) result (board self.old) (board self.new) }

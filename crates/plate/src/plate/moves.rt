@@ -105,6 +105,7 @@ impl<'a, C: Kind> Plate<'a, C> {
     }
 }
 
+// A function, so that its clause says what becomes of the whole slice.
 fn put<C: Kind>(cells: &mut [C], at: usize, cell: C)
     requires { at < length cells.old }
     ensures { cells.new ≡ slice_set cells.old at cell }

@@ -12,5 +12,5 @@ returns-in-MachineCells-clause-answered c =
 pub returns-in-Bits-clause-answered : goal.returns-in-Bits-clause-answered
 returns-in-Bits-clause-answered c =
     answered_as_bits c.args.file.now c.reply_of-in-Bits.result c.args.out.now c.reply_of-in-Bits.new.out c.kind.result c.kind.ensures _
-    (elim [ | Zero ↦ elim [ | Zero ↦ refl | One ↦ refl ] | One ↦ elim [ | Zero ↦ refl | One ↦ refl ] ]) c.in-Bits.is
+    (elim [ Zero ↦ elim [ Zero ↦ refl | One ↦ refl ] | One ↦ elim [ Zero ↦ refl | One ↦ refl ] ]) c.in-Bits.is
     c.reply_of-in-Bits.ensures.replied

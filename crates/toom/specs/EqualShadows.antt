@@ -1,6 +1,7 @@
--- Shadows of the same side and the same rows are equal, which their sameness decides.
+-- Shadows of the same side and the same rows are equal, so their sameness is an equivalence.
 use Rattle.std.specs.Prelude.{◌≡◌, ℕ, ◌≤◌, ◌==◌, nat_eq, length, slice_index}
 use Rattle.std.specs.Bool.{Decides}
+use Rattle.std.specs.Cmp.{IsPartialEquivalence, partial_equiv_from_equiv, decided}
 use Rattle.std.specs.Cmp.Derive.{both_true}
 use Rattle.std.specs.Cmp.Lexicographic.{pointwise}
 use mathlib.Core.HLevel.{is_prop→PathP, ×_prop, Π_prop}
@@ -33,3 +34,6 @@ equal_shadows_decides s t =
           shadows_equal s t (eqb-true _ _ parts.0) (rows.0 parts.1),
       λ e. both_true (eq-eqb _ _ (ap (λ x. x.side) e)) (rows.1 (ap (λ x. x.rows) e)),
     )
+
+pub equal_shadows_laws : IsPartialEquivalence equal_shadows
+equal_shadows_laws = partial_equiv_from_equiv (decided equal_shadows equal_shadows_decides)
