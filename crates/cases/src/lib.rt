@@ -21,7 +21,7 @@ mod shadows;
 #[cfg(test)]
 mod votes;
 
-// What a test builds could not be built.
+// What a test builds could not be built. Each crate of tests has its own small helpers: to share one, it would have to be public, with a contract.
 #[cfg(test)]
 #[derive(Debug, Drop)]
 struct Unbuilt;

@@ -14,7 +14,7 @@ mod scripts;
 #[cfg(test)]
 mod whole_runs;
 
-// What a test builds could not be built.
+// What a test builds could not be built. As `cases` has it, which is not shared: each crate of tests has its own small helpers.
 #[cfg(test)]
 #[derive(Debug, Drop)]
 struct Unbuilt;

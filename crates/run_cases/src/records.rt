@@ -1,4 +1,5 @@
-// Records and scripts written from their fields, and the machine of the tests.
+// Records and scripts written from their fields, and the machine of the tests. `cases` has a machine and a strike like these: to share them, they
+// would have to be public, with a contract.
 use plate::strike::Strike;
 
 // The two-state busy beaver; state 3 stands still.
