@@ -1,4 +1,5 @@
-// The map of a plate: at each place, how many planes' copies differ from their cell of the line.
+// The map of a plate: at each place, how many planes' copies differ from their cell of the line. Shape and memory are two parameters, as in
+// `reading`.
 ghost use Rattle.std.specs.Prelude.{◌≡◌, ℕ, ◌+◌, ◌*◌, ◌<◌, ◌≤◌, ◌++◌, map, length, drop, slice_index, slice_index_or};
 ghost use Rattle.std.specs.List.{range_with_len};
 ghost use Rattle.toom.specs.Vote.{wounded};

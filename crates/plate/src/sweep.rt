@@ -60,7 +60,7 @@ fn vote_row<C: Kind>(cells: &mut [C], to: usize, north: usize, own: usize, side:
     fill(&Ballot, cells, to + last, north + last, own, own + last, 1);
 }
 
-// Votes the plane at own. North of the last row is the first.
+// Votes the plane at own. North of the last row is the first. The side and no shape: it is one plane of those of a shape.
 fn vote_plane<C: Kind>(cells: &mut [C], to: usize, own: usize, side: usize)
     requires side { Side side }
     requires to { to + side * side ≤ length cells.old }

@@ -1,4 +1,5 @@
 // Plays the round on standard input, or the rounds in the files that are named, and writes the report of each, or the line of its refusal.
+// `within` holds an answer against the output, so no type of either could say it.
 #![tactic(auto)]
 
 ghost use Rattle.std.specs.Prelude.{◌≡◌, ◌≤◌, length, IfOk};

@@ -58,9 +58,8 @@ fn refuse<C: Kind, H: Entry<C>>(
 // The file with zeros after it, and with the bytes put in.
 fn edited(file: &[u8], edits: [Option<(usize, u8)>; 2]) -> [u8; FILE] {
     let mut bytes = [0; FILE];
-    for (place, byte) in bytes.iter_mut().zip(file) {
-        *place = *byte;
-    }
+    let len = file.len().min(FILE);
+    bytes[..len].copy_from_slice(&file[..len]);
     for edit in edits {
         if let Some((index, byte)) = edit {
             if index < FILE {

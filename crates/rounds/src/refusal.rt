@@ -53,7 +53,7 @@ impl Word {
     }
 }
 
-// The place is 0 where none is named.
+// Number and place as the line of a refusal has them, where the place is 0 if none is named.
 #[derive(Clone, Copy, PartialEq, Eq, Debug)]
 pub struct Refusal {
     pub number: u8,

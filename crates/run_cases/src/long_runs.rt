@@ -52,6 +52,7 @@ fn check_reading<C: Kind, const N: usize>(
 // The bytes of the cells of a ring.
 fn bytes_of<C: Kind, const N: usize>(ring: &[C; N]) -> [u8; N] {
     let mut bytes = [0; N];
+    // No `map`, which is not proved at an array of any kind.
     for (byte, cell) in bytes.iter_mut().zip(ring.iter()) {
         *byte = cell.byte();
     }

@@ -1,5 +1,5 @@
 // The run: the strikes of a script among the beats of one host. `same` says that the plate's memory is still the one that was lent: of a plate
-// before and after, so that no field of it could say it.
+// before and after, so that no field of it could say it. Host, script and beats are the caller's, and are handed on as they came.
 ghost use Rattle.std.specs.Prelude.{◌≡◌, None, MatchResult};
 ghost use Rattle.plate.specs.Plates.{board, members};
 ghost use Rattle.runs.specs.Leads.{Leads, Older, YoungFor, beats_alone};

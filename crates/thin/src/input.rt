@@ -83,7 +83,8 @@ fn cut_word(line: &[u8]) -> Option<(&[u8], &[u8])>
     }
 }
 
-// The number that a word names, or the largest `usize` for one that is larger.
+// The number that a word names, or the largest `usize` for one that is larger. By hand: `parse` takes a word such as +4, and refuses a number
+// that is too large, which is out of range here.
 fn number(word: &[u8]) -> Result<usize, Cause>
     ensures { NumberRead word.now result }
 {

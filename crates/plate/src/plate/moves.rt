@@ -1,4 +1,5 @@
-// What each call on a plate does: asks its questions in order, and only then writes.
+// What each call on a plate does: asks its questions in order, and only then writes. `same` as in `calls`: of a plate before and after, so that no
+// field could say it.
 ghost use Rattle.std.specs.Prelude.{◌≡◌, ◌<◌, length, slice_set};
 ghost use Rattle.plate.specs.Faults.{lay_fault, strike_fault, beat_fault, read_fault, map_fault, shadow_fault};
 // `Strike` is the call in a clause; the struct is named by its path.
