@@ -9,11 +9,10 @@ use Rattle.reports.specs.declared.fault.ReportFault.{ReportFault}
 use Rattle.reports.specs.declared.fault.ReportFault.TheVariants.{Bare, Output}
 use Rattle.reports.specs.Report.{report_of}
 use Rattle.reports.specs.ReportCall.{Reports, report_fault}
-use Rattle.reports.specs.ReportPins.{ReportPins}
+use Rattle.reports.specs.ReportPins.{ReportFaultsPin, ReportPins}
 use Rattle.plate.proofs.PinnedEffects.{some_cell}
 
--- The refusal tells the fault.
-fault_pins : (e f : ReportFault) → report_fault e ≡ report_fault f → e ≡ f
+pub fault_pins : ReportFaultsPin
 fault_pins Bare Bare same = refl
 fault_pins Bare Output same = let z : ◌≡◌ {A = ℕ} 6 15 = ap (λ r. r.number) same in absurd (omega arith)
 fault_pins Output Bare same = let z : ◌≡◌ {A = ℕ} 15 6 = ap (λ r. r.number) same in absurd (omega arith)

@@ -20,7 +20,7 @@ use Rattle.plate.specs.ReadCall.{Reads, plane_question, read_questions, read_que
 use Rattle.plate.proofs.Follows.{stood_alike}
 use Rattle.plate.proofs.Heals.{always_heals}
 use Rattle.plate.proofs.Standing.{some_same}
-use Rattle.reports.specs.Report.{last_line, last_of, place_mark, tape_line}
+use Rattle.reports.specs.Report.{clear_mark, last_line, last_of, place_mark, tape_line}
 use Rattle.reports.specs.Tells.{ReportsTell, map_at}
 
 total_none : (f : ℕ → ℕ) (n : ℕ) → ((k : ℕ) → k < n → f k ≡ 0) → total f n ≡ 0
@@ -73,7 +73,7 @@ module _ {C : Type 0} (k : Members C) (reflexive : (x : C) → k.equal x x ≡ t
         | inr clear ↦ absurd (hurt (no_hurt r c r< c< clear))
       ]
 
-  outside_clear : Everywhere side (λ r c. marks l.shadow r c ≡ false → place_mark (map_at k l b.cells d r c) (marks l.shadow r c) ≡ 46)
+  outside_clear : Everywhere side (λ r c. marks l.shadow r c ≡ false → place_mark (map_at k l b.cells d r c) (marks l.shadow r c) ≡ clear_mark)
   outside_clear r c r< c< clear = ap₂ place_mark (no_hurt r c r< c< clear) clear
 
 -- A read into an output that just holds the tape.

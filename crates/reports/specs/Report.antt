@@ -1,5 +1,5 @@
 -- The text of a report.
-use Rattle.std.specs.Prelude.{ℕ, ◌+◌, ◌*◌, Bool, cond, List, ◌++◌, map, Some, None, codes, decimal, Option, ◌==◌}
+use Rattle.std.specs.Prelude.{ℕ, ◌+◌, ◌*◌, Bool, cond, List, ◌++◌, map, Some, None, codes, decimal, Option, nat_lt}
 use Rattle.std.specs.List.{range_with_len, flat_map}
 use Rattle.toom.specs.Shadow.{marks}
 use Rattle.toom.specs.Torus.{Plane, count_marks, total}
@@ -19,9 +19,21 @@ ended line = line ++ line_end
 abbrev pub number_line : (word : List ℕ) → ℕ → List ℕ
 number_line word n = ended (word ++ decimal n)
 
+-- `#`
+abbrev pub hurt_mark : ℕ
+hurt_mark = 35
+
+-- `s`
+abbrev pub shadow_mark : ℕ
+shadow_mark = 115
+
+-- `.`
+abbrev pub clear_mark : ℕ
+clear_mark = 46
+
 -- `#` at a place where the map is not 0, else `s` in the shadow, else `.`.
 abbrev pub place_mark : (hurt : ℕ) → (shadowed : Bool) → ℕ
-place_mark hurt shadowed = cond (hurt == 0) (cond shadowed 115 46) 35
+place_mark hurt shadowed = cond (nat_lt 0 hurt) hurt_mark (cond shadowed shadow_mark clear_mark)
 
 -- The marks of row r. The map has `hurts j` at place j, counted row by row.
 abbrev pub row_line : (side : ℕ) → (hurts : ℕ → ℕ) → (shadow : Plane Bool) → (r : ℕ) → List ℕ

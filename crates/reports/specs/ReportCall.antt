@@ -3,8 +3,6 @@ use Rattle.std.specs.Prelude.{◌≡◌, ℕ, List, ◌++◌, length, drop, Some
 use Rattle.hosts.specs.Refusal.{Refusal, ask}
 use Rattle.plate.specs.declared.laid.Laid.{Laid}
 use Rattle.plate.specs.Board.{Board, standing}
-use Rattle.plate.specs.Healing.{Healing}
-use Rattle.plate.specs.History.{History, Reached}
 use Rattle.plate.specs.Members.{Members}
 use Rattle.reports.specs.declared.fault.ReportFault.{ReportFault}
 use Rattle.reports.specs.declared.fault.ReportFault.TheVariants.{Bare, Output}
@@ -37,7 +35,3 @@ abbrev pub ReportAnswers : {C : Type 0} → Members C → Result ℕ ReportFault
 ReportAnswers k r b before after =
     MatchResult r (λ n. (report_questions b (length before) ≡ None) × Reports k b n before after)
     (λ e. (report_questions b (length before) ≡ Some (report_fault e)) × (after ≡ before))
-
--- The healing laws hold of a plate that is reported, whatever history reached it.
-abbrev pub ReportHeals : {C : Type 0} → Members C → Board C → Type 0
-ReportHeals {C} k b = (h : History C) → Reached k h b → Healing k h b

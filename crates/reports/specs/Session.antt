@@ -40,6 +40,11 @@ unrolled (Run host script beats (Ok _) ∷ s) = with_calls (calls_of_run host sc
 unrolled (Run host script beats (Err _) ∷ s) = unrolled s
 unrolled (Report before after answer ∷ s) = unrolled s
 
+-- With a report every session goes on, and the healing laws hold after it.
+abbrev pub ReportGoesOn : {C : Type 0} → Members C → Result ℕ ReportFault → Board C → (before after : List ℕ) → Type 0
+ReportGoesOn {C} k r b before after =
+    (s : Session C) → ComesTo k s b → ComesTo k (Report before after r ∷ s) b × Healing k (unrolled s) b
+
 -- The healing laws hold after every list of calls, runs and reports among them. A triangle may begin to shrink between the strikes and beats of a run.
 abbrev pub SessionHeals : {C : Type 0} → Members C → Type 0
 SessionHeals {C} k = (s : Session C) (b : Board C) → ComesTo k s b → Reached k (unrolled s) b × Healing k (unrolled s) b

@@ -11,7 +11,7 @@ use Rattle.plate.specs.History.{History, Reached}
 use Rattle.plate.specs.MapCall.{hurt_at}
 use Rattle.plate.specs.Members.{Members}
 use Rattle.plate.specs.Plain.{Plain, plain}
-use Rattle.reports.specs.Report.{last_of, place_mark, tape_line}
+use Rattle.reports.specs.Report.{clear_mark, last_of, place_mark, tape_line}
 
 -- What the map of the report has at each place.
 abbrev pub map_at : {C : Type 0} → Members C → Laid → List C → C → Plane ℕ
@@ -27,9 +27,9 @@ pub record ReportTells {C : Type 0} (k : Members C) (p : Plain C) (l : Laid) (ce
       (λ r c. map_at k l cells d r c ≡ total (λ i. wounded k.equal (x i) (copies cells (side_of l) d i r c)) l.planes)
   -- A place where the map is not 0 is in the shadow.
   pub hurt_inside : Everywhere (side_of l) (λ r c. (map_at k l cells d r c ≢ 0) → marks l.shadow r c ≡ true)
-  -- So every place outside the shadow has the mark `.`, which is 46.
+  -- So every place outside the shadow has the mark `.`.
   pub clear_outside : Everywhere (side_of l)
-      (λ r c. marks l.shadow r c ≡ false → place_mark (map_at k l cells d r c) (marks l.shadow r c) ≡ 46)
+      (λ r c. marks l.shadow r c ≡ false → place_mark (map_at k l cells d r c) (marks l.shadow r c) ≡ clear_mark)
   -- While the shadow covers fewer than half of the places, the last line is the tape of the faultless run: names are the bytes of its cells.
   pub tape_faultless : 2 * count_marks p.side p.shadow < p.side * p.side
       → (names : List ℕ) → length names ≡ l.planes → ((i : ℕ) → i < l.planes → option_map k.byte (p.run i) ≡ Some (slice_index names i))

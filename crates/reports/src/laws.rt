@@ -1,6 +1,6 @@
 // What holds of every report and of all calls on a plate together, as the contracts of functions that do nothing.
 ghost use Rattle.plate.specs.Plates.{members};
-ghost use Rattle.reports.specs.ReportPins.{ReportPins};
+ghost use Rattle.reports.specs.ReportPins.{ReportFaultsPin, ReportPins};
 ghost use Rattle.reports.specs.Room.{ReportFits};
 ghost use Rattle.reports.specs.Session.{SessionHeals};
 ghost use Rattle.reports.specs.Tells.{ReportsTell};
@@ -14,7 +14,8 @@ pub fn report_fits<C: Kind>()
 
 // The outcome of a report settles its end: the answer and every byte of the output.
 pub fn report_pins<C: Kind>()
-    ensures { ReportPins (members C.eq C.byte_of C.cell_of) }
+    ensures ends { ReportPins (members C.eq C.byte_of C.cell_of) }
+    ensures faults { ReportFaultsPin }
 {}
 
 // A report tells of the faultless run: the map counts the copies that differ from it, all of them in the shadow, and while the shadow covers fewer

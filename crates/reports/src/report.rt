@@ -1,6 +1,7 @@
 // The report of a plate.
 ghost use Rattle.plate.specs.Plates.{board, members};
-ghost use Rattle.reports.specs.ReportCall.{ReportAnswers, ReportHeals};
+ghost use Rattle.reports.specs.ReportCall.{ReportAnswers};
+ghost use Rattle.reports.specs.Session.{ReportGoesOn};
 ghost use Rattle.reports.specs.TapeCall.{TapeAnswers};
 
 use crate::fault::ReportFault;
@@ -18,7 +19,7 @@ pub const REPORT_BYTES: usize = 12_396;
 // Writes the report at the front of the output, and answers its length.
 pub fn report<C: Kind>(plate: &Plate<'_, C>, out: &mut [u8]) -> Result<usize, ReportFault>
     ensures outcome { ReportAnswers (members C.eq C.byte_of C.cell_of) result (board plate.now) out.old out.new }
-    ensures heals { ReportHeals (members C.eq C.byte_of C.cell_of) (board plate.now) }
+    ensures heals { ReportGoesOn (members C.eq C.byte_of C.cell_of) result (board plate.now) out.old out.new }
 {
     try_report(plate, out)
 }

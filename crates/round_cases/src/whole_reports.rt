@@ -16,9 +16,15 @@ const CELLS: usize = 102;
 // Those of 4,096 planes of side 64.
 const LARGEST: usize = 33_562_624;
 
-// The report is this text.
+// An output that is longer than it has to be.
+const LONG: usize = 12_400;
+
+// The report is this text, in the shortest output that is enough and in a longer one.
 fn check_report<C: Kind>(rt: &impl Abort, plate: &Plate<'_, C>, text: &str) -> Result<(), Fail> {
     let mut out = [FILL; ROOM];
+    let len = report(plate, &mut out)?;
+    check_text(rt, &out, len, text);
+    let mut out = [FILL; LONG];
     let len = report(plate, &mut out)?;
     check_text(rt, &out, len, text);
     Ok(())
@@ -78,7 +84,7 @@ fn tell<C: Kind>(
     check_report(rt, &plate, texts[1])
 }
 
-// With no majority in the last plane, then in the first as well.
+// With no majority in the first plane alone; in the last; and in both.
 fn tell_split<C: Kind>(
     rt: &impl Abort,
     cells: &mut [C],
@@ -87,12 +93,16 @@ fn tell_split<C: Kind>(
 ) -> Result<(), Fail> {
     let mut plate = Plate::new(cells);
     plate.lay(3, 4, &tape)?;
+    split(&mut plate, 0, wrong[0])?;
+    let first = "age 0\nshadow 8\nhurt 8\n####\n####\n....\n....\nno majority 0\n";
+    check_report(rt, &plate, first)?;
+    plate.lay(3, 4, &tape)?;
     split(&mut plate, 2, wrong[2])?;
     let last = "age 0\nshadow 8\nhurt 8\n####\n####\n....\n....\nno majority 2\n";
     check_report(rt, &plate, last)?;
     split(&mut plate, 0, wrong[0])?;
-    let first = "age 0\nshadow 8\nhurt 16\n####\n####\n....\n....\nno majority 0\n";
-    check_report(rt, &plate, first)
+    let both = "age 0\nshadow 8\nhurt 16\n####\n####\n....\n....\nno majority 0\n";
+    check_report(rt, &plate, both)
 }
 
 #[test]

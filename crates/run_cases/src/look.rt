@@ -1,6 +1,7 @@
-// All that a plate of three planes of side 4 shows of itself.
+// All that a plate of three planes of side 4 shows of itself, and the cells of two plates side by side.
 use plate::fault::ReadFault;
 use plate::plate::Plate;
+use std::process::Abort;
 use toom::kind::Kind;
 
 pub(crate) const PLANES: usize = 3;
@@ -35,5 +36,13 @@ pub(crate) fn look_at<C: Kind>(plate: &Plate<'_, C>) -> Look {
         map,
         read,
         bytes,
+    }
+}
+
+// Both have the same cells.
+pub(crate) fn check_same<C: Kind>(rt: &impl Abort, left: &[C], right: &[C]) {
+    assert_eq!(rt; left.len(), right.len());
+    for (index, (x, y)) in left.iter().zip(right).enumerate() {
+        assert!(rt; x == y, "cell {index}");
     }
 }

@@ -1,6 +1,6 @@
 // What a run refuses, in which order, and that a refusal leaves the plate as it was.
 use crate::Unbuilt;
-use crate::look::{CELLS, PLANES, SIDE, look_at};
+use crate::look::{CELLS, PLANES, SIDE, check_same, look_at};
 use crate::records::{BEAVER, script, strike, wound};
 use hosts::elementary::Elementary;
 use hosts::host::Host;
@@ -119,37 +119,64 @@ fn refuse_each<C: Kind, H: Host<C>>(rt: &impl Abort, plate: &mut Plate<'_, C>, h
     }
 }
 
-// A record that fails several questions is refused for the first of them, and of two bad records the earlier is. The good script is accepted.
-fn refuse_in_order<C: Kind, H: Host<C>>(rt: &impl Abort, plate: &mut Plate<'_, C>, host: &H) {
-    let plane = RunFault::Strike {
-        record: 1,
-        fault: StrikeFault::Plane,
-    };
-    let place = RunFault::Strike {
-        record: 1,
-        fault: StrikeFault::Place,
-    };
-    let table = [
-        (strike(4, 3, 4, 4, 2) | 1, RunFault::Padding { record: 1 }),
-        (strike(0, 3, 4, 4, 2) | 1, RunFault::Padding { record: 1 }),
-        (strike(4, 3, 4, 4, 2), RunFault::Number { record: 1 }),
-        (strike(0, 3, 4, 4, 2), RunFault::Order { record: 1 }),
-        (strike(2, 3, 4, 4, 2), plane),
-        (strike(2, 2, 4, 3, 2), place),
-        (strike(2, 2, 3, 4, 2), place),
-    ];
-    for (record, fault) in table {
-        for last in [
-            GOOD[2],
+// The record at this index is refused, whatever is wrong with the one after it.
+fn refuse_before<C: Kind, H: Host<C>>(
+    rt: &impl Abort,
+    plate: &mut Plate<'_, C>,
+    host: &H,
+    index: usize,
+    record: u64,
+    fault: RunFault,
+) {
+    refuse_record(rt, plate, host, index, record, fault);
+    let mut words = GOOD;
+    if index < 2 {
+        words[index] = record;
+        for next in [
             GOOD[2] | 1,
             strike(4, 0, 0, 0, 0),
             strike(0, 0, 0, 0, 0),
             strike(3, 3, 0, 0, 0),
         ] {
-            refuse(rt, plate, host, &script([GOOD[0], record, last]), 3, fault);
+            words[index + 1] = next;
+            refuse(rt, plate, host, &script(words), 3, fault);
         }
     }
-    assert_eq!(rt; run(plate, host, &script(GOOD), 3), Ok(()));
+}
+
+// A record that fails several questions is refused for the first of them, and of two bad records the earlier is.
+fn refuse_in_order<C: Kind, H: Host<C>>(rt: &impl Abort, plate: &mut Plate<'_, C>, host: &H) {
+    for index in 0..3usize {
+        let number = index as u32 + 1;
+        let plane = RunFault::Strike {
+            record: index,
+            fault: StrikeFault::Plane,
+        };
+        let place = RunFault::Strike {
+            record: index,
+            fault: StrikeFault::Place,
+        };
+        let table = [
+            (
+                strike(4, 3, 4, 4, 2) | 1,
+                RunFault::Padding { record: index },
+            ),
+            (strike(4, 3, 4, 4, 2), RunFault::Number { record: index }),
+            (strike(number, 3, 4, 4, 2), plane),
+            (strike(number, 2, 4, 3, 2), place),
+            (strike(number, 2, 3, 4, 2), place),
+        ];
+        for (record, fault) in table {
+            refuse_before(rt, plate, host, index, record, fault);
+        }
+    }
+    for index in 1..3usize {
+        let early = strike(index as u32 - 1, 3, 4, 4, 2);
+        let padding = RunFault::Padding { record: index };
+        refuse_before(rt, plate, host, index, early | 1, padding);
+        let order = RunFault::Order { record: index };
+        refuse_before(rt, plate, host, index, early, order);
+    }
 }
 
 #[test]
@@ -159,6 +186,7 @@ fn records_of_bits(rt: HostRuntime) -> Result<(), Fail> {
     wear(&mut plate, &RULE, &[0, 1, 1])?;
     refuse_each(&rt, &mut plate, &RULE);
     refuse_in_order(&rt, &mut plate, &RULE);
+    assert_eq!(rt; run(&mut plate, &RULE, &script(GOOD), 3), Ok(()));
     for index in 0..3usize {
         let fault = RunFault::Strike {
             record: index,
@@ -190,6 +218,7 @@ fn records_of_machine_cells(rt: HostRuntime) -> Result<(), Fail> {
     wear(&mut plate, &host, &[0, 0x10, 0])?;
     refuse_each(&rt, &mut plate, &host);
     refuse_in_order(&rt, &mut plate, &host);
+    assert_eq!(rt; run(&mut plate, &host, &script(GOOD), 3), Ok(()));
     for byte in 0..=255u8 {
         let script = strike(0, 2, 3, 3, byte).to_be_bytes();
         assert_eq!(rt; run(&mut plate, &host, &script, 0), Ok(()));
@@ -197,21 +226,35 @@ fn records_of_machine_cells(rt: HostRuntime) -> Result<(), Fail> {
     Ok(())
 }
 
-// Every cell of a bare plate, and of a laid one.
+// Every cell of a bare plate stays, and every cell of a laid one. Both plates have the same cells at first.
+fn keep_every_cell<C: Kind, H: Host<C>>(
+    rt: &impl Abort,
+    cells: &mut [C],
+    twin: &mut [C],
+    host: &H,
+    tape: &[u8],
+) -> Result<(), Fail> {
+    let mut plate = Plate::new(cells);
+    refuse(rt, &mut plate, host, &script(GOOD), 3, RunFault::Bare);
+    check_same(rt, cells, twin);
+    let mut plate = Plate::new(cells);
+    wear(&mut plate, host, tape)?;
+    refuse_each(rt, &mut plate, host);
+    refuse_in_order(rt, &mut plate, host);
+    let mut plate = Plate::new(twin);
+    wear(&mut plate, host, tape)?;
+    check_same(rt, cells, twin);
+    Ok(())
+}
+
 #[test]
 fn refusals_keep_every_cell(rt: HostRuntime) -> Result<(), Fail> {
-    let mut cells = [Bit::One; CELLS];
-    let mut plate = Plate::new(&mut cells);
-    refuse(&rt, &mut plate, &RULE, &script(GOOD), 3, RunFault::Bare);
-    assert_eq!(rt; cells, [Bit::One; CELLS]);
-    let mut plate = Plate::new(&mut cells);
-    wear(&mut plate, &RULE, &[0, 1, 1])?;
-    refuse_each(&rt, &mut plate, &RULE);
-    let mut twin = [Bit::One; CELLS];
-    let mut plate = Plate::new(&mut twin);
-    wear(&mut plate, &RULE, &[0, 1, 1])?;
-    assert_eq!(rt; cells, twin);
-    Ok(())
+    let (cells, twin) = (&mut [Bit::One; CELLS], &mut [Bit::One; CELLS]);
+    keep_every_cell(&rt, cells, twin, &RULE, &[0, 1, 1])?;
+    let host = Machine::read(&BEAVER)?;
+    let cell = MachineCell::from_byte(0x77).ok_or(Unbuilt)?;
+    let (cells, twin) = (&mut [cell; CELLS], &mut [cell; CELLS]);
+    keep_every_cell(&rt, cells, twin, &host, &[0, 0x10, 0])
 }
 
 // The questions before the records: bare, then age, then script. The first record fails too.
@@ -271,24 +314,29 @@ fn whole_runs_of_machine_cells(rt: HostRuntime) -> Result<(), Fail> {
 }
 
 // Records of zeros are accepted: each strikes the first place of plane 0. A script has 8,191 records at most.
+fn longest<C: Kind, H: Host<C>>(
+    rt: &impl Abort,
+    cells: &mut [C],
+    host: &H,
+    tape: &[u8],
+) -> Result<(), Fail> {
+    let zeros = [0; 65_536];
+    let mut plate = Plate::new(cells);
+    wear(&mut plate, host, tape)?;
+    for length in [65_521, 65_527, 65_529, 65_535, 65_536] {
+        let script = &zeros[..length];
+        refuse(rt, &mut plate, host, script, 0, RunFault::Script);
+    }
+    assert_eq!(rt; run(&mut plate, host, &zeros[..65_528], 0), Ok(()));
+    Ok(())
+}
+
 #[test]
 fn the_longest_script(rt: HostRuntime) -> Result<(), Fail> {
-    let zeros = [0; 65_536];
-    let mut cells = [Bit::Zero; CELLS];
-    let mut plate = Plate::new(&mut cells);
-    wear(&mut plate, &RULE, &[0, 1, 1])?;
-    for length in [65_521, 65_527, 65_529, 65_535, 65_536] {
-        refuse(
-            &rt,
-            &mut plate,
-            &RULE,
-            &zeros[..length],
-            0,
-            RunFault::Script,
-        );
-    }
-    assert_eq!(rt; run(&mut plate, &RULE, &zeros[..65_528], 0), Ok(()));
-    Ok(())
+    longest(&rt, &mut [Bit::Zero; CELLS], &RULE, &[0, 1, 1])?;
+    let host = Machine::read(&BEAVER)?;
+    let blank = MachineCell::from_byte(0).ok_or(Unbuilt)?;
+    longest(&rt, &mut [blank; CELLS], &host, &[0, 0x10, 0])
 }
 
 // No plate is older than the limit, but the questions without a plate take any age.

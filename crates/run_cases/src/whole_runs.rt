@@ -1,6 +1,6 @@
 // What a run does: its strikes and beats one by one, the order of records, the age, and two halves.
 use crate::Unbuilt;
-use crate::look::{CELLS, Look, PLANES, SIDE, look_at};
+use crate::look::{CELLS, Look, PLANES, SIDE, check_same, look_at};
 use crate::records::{BEAVER, script, strike, wound};
 use hosts::elementary::Elementary;
 use hosts::host::Host;
@@ -15,14 +15,6 @@ use toom::kind::Kind;
 use toom::machine_cell::MachineCell;
 
 const RULE: Elementary = Elementary { rule: 110 };
-
-// Both have the same cells.
-fn check_same<C: Kind>(rt: &impl Abort, left: &[C], right: &[C]) {
-    assert_eq!(rt; left.len(), right.len());
-    for (index, (x, y)) in left.iter().zip(right).enumerate() {
-        assert!(rt; x == y, "cell {index}");
-    }
-}
 
 // Six beats with strikes before the first, after the second and after the last, as one run.
 fn whole<C: Kind, H: Host<C>>(
@@ -188,7 +180,32 @@ fn strikes_before_and_after_their_beats(rt: HostRuntime) -> Result<(), Fail> {
     strikes_in_time(&rt, &mut [blank; CELLS], &host)
 }
 
-// Without beats a run only strikes, and with no record either it changes nothing.
+// Lays the plate, and beats it once.
+fn age<C: Kind, H: Host<C>>(plate: &mut Plate<'_, C>, host: &H, tape: &[u8]) -> Result<(), Fail> {
+    plate.lay(PLANES, SIDE, tape)?;
+    plate.beat(host)?;
+    Ok(())
+}
+
+// With no beats and no record a run changes nothing.
+fn no_call<C: Kind, H: Host<C>>(
+    rt: &impl Abort,
+    cells: &mut [C],
+    twin: &mut [C],
+    host: &H,
+    tape: &[u8],
+) -> Result<(), Fail> {
+    let mut plate = Plate::new(cells);
+    let mut other = Plate::new(twin);
+    age(&mut plate, host, tape)?;
+    age(&mut other, host, tape)?;
+    run(&mut plate, host, &[], 0)?;
+    assert_eq!(rt; look_at(&plate), look_at(&other));
+    check_same(rt, cells, twin);
+    Ok(())
+}
+
+// With no beats it only strikes.
 fn no_beats<C: Kind, H: Host<C>>(
     rt: &impl Abort,
     cells: &mut [C],
@@ -198,12 +215,8 @@ fn no_beats<C: Kind, H: Host<C>>(
 ) -> Result<(), Fail> {
     let mut plate = Plate::new(cells);
     let mut other = Plate::new(twin);
-    plate.lay(PLANES, SIDE, tape)?;
-    other.lay(PLANES, SIDE, tape)?;
-    plate.beat(host)?;
-    other.beat(host)?;
-    run(&mut plate, host, &[], 0)?;
-    assert_eq!(rt; look_at(&plate), look_at(&other));
+    age(&mut plate, host, tape)?;
+    age(&mut other, host, tape)?;
     let script = script([
         strike(0, 0, 0, 0, 0),
         strike(0, 1, 0, 0, 1),
@@ -218,27 +231,20 @@ fn no_beats<C: Kind, H: Host<C>>(
     assert_eq!(rt; seen.age, Some(1));
     assert_eq!(rt; seen.shadow, [1 << 63, 0, 0, 1 << 60]);
     assert_eq!(rt; seen.map[15], 1);
+    check_same(rt, cells, twin);
     Ok(())
 }
 
 #[test]
 fn runs_without_beats(rt: HostRuntime) -> Result<(), Fail> {
-    no_beats(
-        &rt,
-        &mut [Bit::Zero; CELLS],
-        &mut [Bit::Zero; CELLS],
-        &RULE,
-        &[0, 1, 1],
-    )?;
+    let (cells, twin) = (&mut [Bit::Zero; CELLS], &mut [Bit::Zero; CELLS]);
+    no_call(&rt, cells, twin, &RULE, &[0, 1, 1])?;
+    no_beats(&rt, cells, twin, &RULE, &[0, 1, 1])?;
     let host = Machine::read(&BEAVER)?;
     let blank = MachineCell::from_byte(0).ok_or(Unbuilt)?;
-    no_beats(
-        &rt,
-        &mut [blank; CELLS],
-        &mut [blank; CELLS],
-        &host,
-        &[0, 0x10, 0],
-    )
+    let (cells, twin) = (&mut [blank; CELLS], &mut [blank; CELLS]);
+    no_call(&rt, cells, twin, &host, &[0, 0x10, 0])?;
+    no_beats(&rt, cells, twin, &host, &[0, 0x10, 0])
 }
 
 // The smallest plate: all its beats in one run, or all but one and then the last; then no more. A last strike is voted only by a beat after it.

@@ -1,5 +1,7 @@
-use Rattle.plate.specs.Plates.{board, members}
-use Rattle.plate.proofs.Heals.{always_heals}
+use Rattle.std.proofs.Common.{refl}
+use Rattle.plate.specs.Plates.{members}
+use Rattle.reports.specs.Session.{Report, more}
+use Rattle.reports.proofs.Sessions.{session_heals}
 use Rattle.reports.proofs.report.report.Goals as goal
 
 pub returns : goal.returns
@@ -7,5 +9,6 @@ returns g c =
     let k = members g.C.PartialEq.eq g.C.Kind.byte_of g.C.Kind.cell_of in
     let met = g.met.C.Kind in record {
       outcome = c.try_report.ensures;
-      heals = λ h reached. always_heals k met.reflexive met.exact h (board c.args.plate.now) reached;
+      heals = λ s came.
+          (more (Report _ _ _) came (c.try_report.ensures, refl), (session_heals k met.reflexive met.exact s _ came).1);
     }
