@@ -2,7 +2,7 @@
 use Rattle.std.proofs.Common.{◌≡◌, ℕ, ◌+◌, ◌*◌, ◌/◌, ◌%◌, ◌<◌, List, None, sym, ap, ◌∙◌, arith}
 use Rattle.std.proofs.lemmas.Bool.Decides.{nat_tests}
 use Rattle.hosts.specs.declared.machine.Machine.{Machine}
-use Rattle.hosts.specs.MachineFile.{states_in, symbols_in, high_byte, low_byte, entry_in, entry_byte, entry_questions, machine_refusal, file_of, MachineIn, Bytes}
+use Rattle.hosts.specs.MachineFile.{states_in, symbols_in, high_byte, low_byte, entry_in, entry_byte, entry_questions, machine_questions, file_of, MachineIn, Bytes}
 use Rattle.hosts.proofs.FileBytes.{Coded, coded_is}
 use Rattle.hosts.proofs.FileEntries.{nth_entry, has_nth, nth_place}
 use Rattle.hosts.proofs.Headers.{length_is}
@@ -13,7 +13,7 @@ use Rattle.hosts.proofs.Tables.{header_good, entry_good}
 low_good : (file : List ℕ) (k : ℕ) → entry_questions file k ≡ None → (low_byte file k / 64 < 3) × (low_byte file k % 64 ≡ 0)
 low_good file k passed = grind (arith, nat_tests)
 
-module _ (file : List ℕ) (m : Machine) (bytes : Bytes file) (good : machine_refusal file ≡ None) (is : MachineIn file m) where
+module _ (file : List ℕ) (m : Machine) (bytes : Bytes file) (good : machine_questions file ≡ None) (is : MachineIn file m) where
   nth_is : (k : ℕ) → k < m.states * m.symbols → nth_entry m k ≡ entry_in file k
   nth_is k h = is.entries _ _ (has_nth m k h) ∙ ap (entry_in file) (nth_place m k h)
 

@@ -2,7 +2,7 @@
 use Rattle.std.proofs.Common.{◌≡◌, ℕ, ◌+◌, ◌*◌, ◌/◌, ◌<◌, List, length, None, sym, ap, ◌∙◌, arith}
 use Rattle.std.proofs.lemmas.Bool.Decides.{nat_tests}
 use Rattle.hosts.specs.declared.machine.Machine.{Machine}
-use Rattle.hosts.specs.MachineFile.{states_in, symbols_in, low_byte, motion_from, entry_in, entry_questions, header_refusal, machine_refusal, MachineIn}
+use Rattle.hosts.specs.MachineFile.{states_in, symbols_in, low_byte, motion_from, entry_in, entry_questions, header_questions, machine_questions, MachineIn}
 use Rattle.hosts.specs.Table.{motion_code}
 use Rattle.hosts.proofs.Entries.{entries_equal}
 use Rattle.hosts.proofs.FileBytes.{Coded}
@@ -17,7 +17,7 @@ module _ (file : List ℕ) (m : Machine) (coded : Coded file m) where
   symbols_are : symbols_in file ≡ m.symbols
   symbols_are = omega (arith, coded.first, m.sized)
 
-  header_good : header_refusal file ≡ None
+  header_good : header_questions file ≡ None
   header_good =
       let sizes = m.sized in
       let states = states_are in
@@ -33,7 +33,7 @@ module _ (file : List ℕ) (m : Machine) (coded : Coded file m) where
       let low = coded.low k h in
       grind (arith, nat_tests)
 
-  pub in_order : machine_refusal file ≡ None
+  pub in_order : machine_questions file ≡ None
   in_order = rw (header_good, states_are, symbols_are) (asked_all (entry_questions file) (m.states * m.symbols) entry_good)
 
   nth_is : (k : ℕ) → k < m.states * m.symbols → nth_entry m k ≡ entry_in file k

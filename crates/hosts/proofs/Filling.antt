@@ -9,7 +9,7 @@ use Rattle.std.proofs.lemmas.Bool.Decides.{nat_tests}
 use Rattle.std.specs.Option.{option_or}
 use Rattle.hosts.specs.declared.entry.Entry.{Entry}
 use Rattle.hosts.specs.declared.machine.file.MachineFile.{MachineFile}
-use Rattle.hosts.specs.MachineFile.{states_in, symbols_in, entry_in, slot_in, entry_questions, machine_refusal, Bytes}
+use Rattle.hosts.specs.MachineFile.{states_in, symbols_in, entry_in, slot_in, entry_questions, machine_questions, Bytes}
 use Rattle.hosts.specs.Refusal.{Refusal, ask_each}
 use Rattle.hosts.specs.Table.{has_entry}
 use Rattle.hosts.proofs.Questions.{none_is, asked_more, asked_first}
@@ -91,7 +91,7 @@ module _ (file : MachineFile) where
         }
 
     -- The first entry that is out of order gives the refusal of the file.
-    pub filled_first : s < file.symbols → (r : Refusal) → entry_questions bytes (place q s) ≡ Some r → machine_refusal bytes ≡ Some r
+    pub filled_first : s < file.symbols → (r : Refusal) → entry_questions bytes (place q s) ≡ Some r → machine_questions bytes ≡ Some r
     filled_first symbol r bad =
         let all = states_in bytes * symbols_in bytes in
         let within : place q s < all =
@@ -125,7 +125,7 @@ module _ (file : MachineFile) where
 
       -- After the last state the file is in order, and every slot is as it says.
       pub filled_all : q ≡ file.states
-          → (machine_refusal bytes ≡ None) × (length table ≡ 256) × ((i : ℕ) → i < 256 → get_or table i None ≡ slot_in bytes i)
+          → (machine_questions bytes ≡ None) × (length table ≡ 256) × ((i : ℕ) → i < 256 → get_or table i None ≡ slot_in bytes i)
       filled_all all =
           let every : states_in bytes * symbols_in bytes ≡ place q s =
           rw (← file.states_read, ← file.symbols_read, ← all, last) (sym (row_end q file.symbols some)) in (
@@ -137,13 +137,13 @@ module _ (file : MachineFile) where
 
 -- What is known of the file's bytes once the table is filled.
 pub record ReadFrom (file : List ℕ) (table : List (Option Entry)) (states symbols : ℕ) : Type 0 where
-  pub good : machine_refusal file ≡ None
+  pub good : machine_questions file ≡ None
   pub states_read : states ≡ states_in file
   pub symbols_read : symbols ≡ symbols_in file
   pub filled : Filled file table states symbols
 
 pub read_from : (b : List ℕ) (file : MachineFile) (table : List (Option Entry)) → Bytes b → file.bytes.now ≡ b
-    → (machine_refusal file.bytes.now ≡ None) × (length table ≡ 256) × ((i : ℕ) → i < 256 → get_or table i None ≡ slot_in file.bytes.now i)
+    → (machine_questions file.bytes.now ≡ None) × (length table ≡ 256) × ((i : ℕ) → i < 256 → get_or table i None ≡ slot_in file.bytes.now i)
     → ReadFrom b table file.states file.symbols
 read_from b file table fit is read =
     subst (λ a. Bytes a → ReadFrom a table file.states file.symbols) is (λ fit. record {

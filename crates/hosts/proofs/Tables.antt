@@ -6,7 +6,7 @@ use Rattle.std.proofs.lemmas.Bool.{cases_lt, cond-true, cond-false}
 use Rattle.std.proofs.lemmas.Bool.Decides.{nat_tests}
 use Rattle.std.specs.Option.{unwrap_or}
 use Rattle.hosts.specs.declared.entry.Entry.{Entry}
-use Rattle.hosts.specs.MachineFile.{states_in, symbols_in, high_byte, entry_in, slot_in, entry_questions, header_refusal, machine_refusal, Bytes}
+use Rattle.hosts.specs.MachineFile.{states_in, symbols_in, high_byte, entry_in, slot_in, entry_questions, header_questions, machine_questions, Bytes}
 use Rattle.hosts.specs.Refusal.{ask_each}
 use Rattle.hosts.specs.Table.{Sizes, has_entry, blank, InRange, slot, Used, Unused}
 use Rattle.hosts.proofs.Headers.{some_state, two_symbols}
@@ -42,18 +42,18 @@ entry_in_range file k small good = (grind (arith, nat_tests), grind (arith, nat_
 none_past : (states symbols i : ℕ) → states ≤ 15 → 256 ≤ i → has_entry states symbols (i / 16) (i % 16) ≡ false
 none_past states symbols i few past = grind (arith, nat_tests)
 
-module _ (file : List ℕ) (bytes : Bytes file) (good : machine_refusal file ≡ None) where
+module _ (file : List ℕ) (bytes : Bytes file) (good : machine_questions file ≡ None) where
   abbrev Q : ℕ
   Q = states_in file
 
   abbrev S : ℕ
   S = symbols_in file
 
-  pub header_good : header_refusal file ≡ None
-  header_good = (or_none (header_refusal file) (ask_each (entry_questions file) (Q * S)) good).0
+  pub header_good : header_questions file ≡ None
+  header_good = (or_none (header_questions file) (ask_each (entry_questions file) (Q * S)) good).0
 
   pub entry_good : (k : ℕ) → k < Q * S → entry_questions file k ≡ None
-  entry_good k h = asked_each (entry_questions file) (Q * S) k (or_none (header_refusal file) (ask_each (entry_questions file) (Q * S)) good).1 h
+  entry_good k h = asked_each (entry_questions file) (Q * S) k (or_none (header_questions file) (ask_each (entry_questions file) (Q * S)) good).1 h
 
   sizes : Sizes Q S
   sizes = (some_state file header_good, omega (arith, bytes 0), two_symbols file header_good, omega arith)

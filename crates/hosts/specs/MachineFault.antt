@@ -4,10 +4,10 @@ use Rattle.hosts.specs.declared.machine.fault.MachineFault.TheVariants.{Header, 
 use Rattle.hosts.specs.MachineFile.{host_refusal}
 use Rattle.hosts.specs.Refusal.{Refusal}
 
-abbrev pub refusal_of : MachineFault → Refusal
-refusal_of Header = host_refusal 17 0
-refusal_of Length = host_refusal 18 0
-refusal_of (Next entry) = host_refusal 19 entry
-refusal_of (Symbol entry) = host_refusal 20 entry
-refusal_of (Move entry) = host_refusal 21 entry
-refusal_of (Padding entry) = host_refusal 22 entry
+abbrev pub machine_fault : MachineFault → Refusal
+machine_fault Header = host_refusal 17 0
+machine_fault Length = host_refusal 18 0
+machine_fault (Next entry) = host_refusal 19 entry
+machine_fault (Symbol entry) = host_refusal 20 entry
+machine_fault (Move entry) = host_refusal 21 entry
+machine_fault (Padding entry) = host_refusal 22 entry

@@ -52,13 +52,13 @@ entry_questions file k =
     (ask (nat_lt (low_byte file k / 64) 3) (host_refusal 21 k)
     (ask (low_byte file k % 64 == 0) (host_refusal 22 k) None)))
 
-abbrev pub header_refusal : List ℕ → Option Refusal
-header_refusal file =
+abbrev pub header_questions : List ℕ → Option Refusal
+header_questions file =
     ask (nat_lt 0 (length file) && (nat_le 1 (states_in file) && nat_le 2 (symbols_in file))) (host_refusal 17 0)
     (ask (length file == 1 + 2 * (states_in file * symbols_in file)) (host_refusal 18 0) None)
 
-abbrev pub machine_refusal : List ℕ → Option Refusal
-machine_refusal file = option_or (header_refusal file) (ask_each (entry_questions file) (states_in file * symbols_in file))
+abbrev pub machine_questions : List ℕ → Option Refusal
+machine_questions file = option_or (header_questions file) (ask_each (entry_questions file) (states_in file * symbols_in file))
 
 -- The machine of a file in order: the entry of state q and symbol s is entry (q - 1) × S + s of the file.
 pub record MachineIn (file : List ℕ) (m : Machine) : Type 0 where
@@ -89,10 +89,10 @@ Bytes file = (i : ℕ) → slice_index file i < 256
 -- A machine's file is in order and gives that machine; and a file in order that gives a machine is that machine's file. So files in order that
 -- give the same machine are the same bytes.
 pub record OneFileEach : Type 0 where
-  pub written : (m : Machine) → (machine_refusal (file_of m) ≡ None) × MachineIn (file_of m) m
-  pub read : (file : List ℕ) (m : Machine) → Bytes file → machine_refusal file ≡ None → MachineIn file m → file ≡ file_of m
-  pub same : (file other : List ℕ) (m : Machine) → Bytes file → Bytes other → machine_refusal file ≡ None
-      → machine_refusal other ≡ None → MachineIn file m → MachineIn other m → file ≡ other
+  pub written : (m : Machine) → (machine_questions (file_of m) ≡ None) × MachineIn (file_of m) m
+  pub read : (file : List ℕ) (m : Machine) → Bytes file → machine_questions file ≡ None → MachineIn file m → file ≡ file_of m
+  pub same : (file other : List ℕ) (m : Machine) → Bytes file → Bytes other → machine_questions file ≡ None
+      → machine_questions other ≡ None → MachineIn file m → MachineIn other m → file ≡ other
 
 -- A machine is its numbers of states and symbols and its entries: a file gives at most one machine.
 abbrev pub OneMachineEach : Type 0

@@ -9,7 +9,7 @@ use Rattle.hosts.specs.declared.machine.Machine.{Machine}
 use Rattle.hosts.specs.Digit.{Digit, zero_digit, cell, symbol_of, entered, written}
 use Rattle.hosts.specs.Table.{has_entry, blank, slot, motion_code}
 
--- The entry of a state and a symbol.
+-- The entry of a state and a symbol; `blank` where the machine has none.
 abbrev pub entry_at : Machine → (state symbol : ℕ) → Entry
 entry_at m state symbol = unwrap_or (slot m.table (16 * state + symbol)) blank
 

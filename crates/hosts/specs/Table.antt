@@ -18,6 +18,7 @@ has_entry states symbols state symbol = (nat_le 1 state && nat_le state states) 
 abbrev pub InRange : (states symbols : ℕ) → Entry → Type 0
 InRange states symbols e = (1 ≤ e.next) × (e.next ≤ states) × (e.symbol < symbols)
 
+-- No machine has it: state 0 is none. It stands where there is no entry.
 abbrev pub blank : Entry
 blank = record { next = 0; symbol = 0; motion = Stay; next_fits = lit< tt; symbol_fits = lit< tt }
 

@@ -38,9 +38,8 @@ abbrev pub configuration : (ℕ → MachineCell) → ℕ → Configuration
 configuration cells p = record { tape = λ i. symbol_of (cells i); place = p; state = head_of (cells p) }
 
 -- It is a Turing machine: in a ring of cells with one live head, at place p, and every other head 0, stepping every cell by the machine's rule
--- is one step of the machine. (If the head then stands on a symbol that the
--- machine lacks, it has become foreign, and the machine halts.) This holds on every ring of at least one cell: a lone cell is its own left and right, and then gets its own
--- head back whichever way it moves.
+-- is one step of the machine. (If the head then stands on a symbol that the machine lacks, it has become foreign, and the machine halts.) This holds
+-- on every ring of at least one cell: a lone cell is its own left and right, and then gets its own head back whichever way it moves.
 abbrev pub StepsAsTuring : Type 0
 StepsAsTuring =
     (m : Machine) (n p : ℕ) (cells : ℕ → MachineCell) → p < n → live m (cells p) ≡ true

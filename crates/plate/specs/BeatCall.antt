@@ -12,9 +12,13 @@ use Rattle.plate.specs.Layout.{copy_at, voted_at, line_at, earlier_at, size_of}
 abbrev pub beat_refusal : (number : ℕ) → Refusal
 beat_refusal number = record { number = number; word = codes "beat"; place = 0 }
 
+-- The age of a plate is at most 1,048,575: it has 20 bits, as the beats of a round file do.
+abbrev pub max_age : ℕ
+max_age = 1048575
+
 abbrev pub beat_questions_of : Option Laid → Option Refusal
 beat_questions_of None = Some (beat_refusal 6)
-beat_questions_of (Some l) = ask (nat_lt l.age 1048575) (beat_refusal 10) None
+beat_questions_of (Some l) = ask (nat_lt l.age max_age) (beat_refusal 10) None
 
 abbrev pub beat_questions : {C : Type 0} → Board C → Option Refusal
 beat_questions b = beat_questions_of (standing b)
@@ -36,8 +40,8 @@ pub record CellsBeaten {C : Type 0} (equal : C → C → Bool) (host : C → C �
       → voted_copies after n side d i r c ≡ voted equal side (copies before side d i) r c
   pub steps : (i r c : ℕ) (d : C) → i < n → r < side → c < side
       → copies after side d i r c ≡ stepped host n (λ k. voted_copies after n side d k r c) i
-  pub lines : (i : ℕ) (d : C) → i < n → line after n side d i ≡ stepped host n (line before n side d) i
   pub earlier : (i : ℕ) (d : C) → i < n → slice_index_or after (earlier_at n side i) d ≡ line before n side d i
+  pub lines : (i : ℕ) (d : C) → i < n → line after n side d i ≡ stepped host n (line before n side d) i
   pub beyond : (k : ℕ) (d : C) → size_of n side ≤ k → slice_index_or after k d ≡ slice_index_or before k d
   pub long : length after ≡ length before
 
@@ -47,7 +51,7 @@ pub record Beats {C : Type 0} (equal : C → C → Bool) (host : C → C → C �
   pub kept : Laid
   pub standing_before : standing before ≡ Some stood
   pub stands : after.laid ≡ Some kept
+  pub cells : CellsBeaten equal host stood.planes (side_of stood) before.cells after.cells
+  pub shadow : Voted stood.shadow kept.shadow
   pub planes : kept.planes ≡ stood.planes
   pub age : kept.age ≡ stood.age + 1
-  pub shadow : Voted stood.shadow kept.shadow
-  pub cells : CellsBeaten equal host stood.planes (side_of stood) before.cells after.cells

@@ -1,16 +1,14 @@
 -- The healing laws: what the vote and the shadow promise of every plate that calls can reach.
-use Rattle.std.specs.Prelude.{◌≡◌, ℕ, ◌+◌, ◌-◌, ◌*◌, ◌<◌, ◌≤◌, Bool, true, false, List, [], ◌∷◌, ◌++◌, length, Some, None, Option, ◌≢◌, slice_index, slice_index_or}
-use Rattle.std.specs.Option.{option_map}
+use Rattle.std.specs.Prelude.{◌≡◌, ℕ, ◌+◌, ◌-◌, ◌<◌, ◌≤◌, Bool, true, false, List, [], ◌∷◌, ◌++◌, length, Some, None, Option, ◌≢◌}
 use Rattle.toom.specs.Shadow.{marks}
-use Rattle.toom.specs.Torus.{Everywhere, count_marks}
+use Rattle.toom.specs.Torus.{Everywhere}
 use Rattle.toom.specs.Triangle.{InTriangle, LiesInTriangle}
 use Rattle.plate.specs.declared.laid.Laid.{Laid}
-use Rattle.plate.specs.BeatCall.{line}
+use Rattle.plate.specs.BeatCall.{copies, line}
 use Rattle.plate.specs.Board.{Board, standing, side_of}
 use Rattle.plate.specs.History.{Call, Lay, Strike, Beat, Read, Map, Show, History, Outcome, Reached}
-use Rattle.plate.specs.Layout.{copy_at}
 use Rattle.plate.specs.Members.{Members}
-use Rattle.plate.specs.Plain.{Plain, plain}
+use Rattle.plate.specs.Plain.{FaultlessTape, FewerThanHalf, Plain, plain}
 
 -- The plate is laid with the plain machine's shape, its shadow is the plain machine's, outside the shadow every copy of plane i is cell i of the
 -- faultless run, and the line is the faultless run, so that the map counts exactly the copies that differ from it.
@@ -21,7 +19,7 @@ pub record Agrees {C : Type 0} (p : Plain C) (b : Board C) : Type 0 where
   pub sides : side_of kept ≡ p.side
   pub shadows : Everywhere p.side (λ r c. marks kept.shadow r c ≡ p.shadow r c)
   pub copies : (i r c : ℕ) (d : C) → i < p.n → r < p.side → c < p.side → p.shadow r c ≡ false
-      → Some (slice_index_or b.cells (copy_at p.side i r c) d) ≡ p.run i
+      → Some (copies b.cells p.side d i r c) ≡ p.run i
   pub lines : (i : ℕ) (d : C) → i < p.n → Some (line b.cells p.n p.side d i) ≡ p.run i
 
 -- The same, or that there is no plain machine and the plate is bare.
@@ -56,11 +54,11 @@ beats_in [] = 0
 beats_in ((call, true) ∷ h) = beats_of call + beats_in h
 beats_in ((call, false) ∷ h) = beats_in h
 
--- The shadow of the plain machine q, and every copy that differs from its faultless run, lie in this triangle.
-pub record WoundsWithin {C : Type 0} (q : Plain C) (b : Board C) (row column k : ℕ) : Type 0 where
-  pub shadow : LiesInTriangle q.side q.shadow row column k
+-- The shadow of the plain machine q, and every copy that differs from its faultless run, lie in the triangle of side m at this corner.
+pub record WoundsWithin {C : Type 0} (q : Plain C) (b : Board C) (row column m : ℕ) : Type 0 where
+  pub shadow : LiesInTriangle q.side q.shadow row column m
   pub copies : (i r c : ℕ) (d : C) → i < q.n → r < q.side → c < q.side
-      → (Some (slice_index_or b.cells (copy_at q.side i r c) d) ≢ q.run i) → InTriangle q.side row column k r c
+      → (Some (copies b.cells q.side d i r c) ≢ q.run i) → InTriangle q.side row column m r c
 
 -- What holds of a plate b that the history h reached.
 pub record Healing {C : Type 0} (k : Members C) (h : History C) (b : Board C) : Type 0 where
@@ -72,9 +70,9 @@ pub record Healing {C : Type 0} (k : Members C) (h : History C) (b : Board C) : 
       → (row column m : ℕ) → m < p.side → beats_in later ≤ m → LiesInTriangle p.side p.shadow row column m
       → WoundsWithin q b row column (m - beats_in later)
   -- While the shadow covers fewer than half of the places, a read with enough output is accepted and gives the whole faultless tape.
-  pub reads : (p : Plain C) → plain k h ≡ Some p → 2 * count_marks p.side p.shadow < p.side * p.side
+  pub reads : (p : Plain C) → plain k h ≡ Some p → FewerThanHalf p
       → (before after : List ℕ) (accepted : Bool) (b' : Board C) → Outcome k (Read before after) accepted b b' → p.n ≤ length before
-      → (accepted ≡ true) × ((i : ℕ) → i < p.n → option_map k.byte (p.run i) ≡ Some (slice_index after i))
+      → (accepted ≡ true) × FaultlessTape k p after
 
 -- After every list of calls on one new plate, in any order and number, accepted or refused.
 abbrev pub AlwaysHeals : {C : Type 0} → Members C → Type 0

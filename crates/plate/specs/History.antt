@@ -10,7 +10,8 @@ use Rattle.plate.specs.ReadCall.{read_questions, Reads}
 use Rattle.plate.specs.ShadowCall.{shadow_questions, Shows}
 use Rattle.plate.specs.StrikeCall.{strike_questions, Strikes}
 
--- A call with its arguments. A beat names its host by the host's meaning; a call that writes has its output before and after.
+-- A call with its arguments. A beat names its host by the host's meaning; a call that writes has its output before and after. `Show` is the call
+-- that writes the shadow.
 pub data Call (C : Type 0) : Type 0 where
   Lay : (n side : ℕ) (tape : List ℕ) → Call C
   Strike : (plane row column byte : ℕ) → Call C
@@ -37,7 +38,7 @@ Effect k (Read before after) b b' = Reads k.equal k.byte b before after × (b' �
 Effect k (Map before after) b b' = Maps k.equal b before after × (b' ≡ b)
 Effect k (Show before after) b b' = Shows b before after × (b' ≡ b)
 
--- What a refused call leaves: everything.
+-- A refused call leaves its output as it was.
 abbrev pub Untouched : {C : Type 0} → Call C → Type 0
 Untouched (Lay n side tape) = Unit {0}
 Untouched (Strike plane row column byte) = Unit {0}

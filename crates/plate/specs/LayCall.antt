@@ -1,6 +1,7 @@
 -- Lay: its questions, and what it leaves.
 use Rattle.std.specs.Prelude.{◌≡◌, ℕ, ◌<◌, ◌≤◌, ◌&&◌, List, length, is_some, Some, None, codes, Option, ◌==◌, nat_le, slice_index, slice_index_or}
 use Rattle.toom.specs.Shadow.{IsShadow, no_marks}
+use Rattle.toom.specs.Torus.{max_side, min_side}
 use Rattle.hosts.specs.Refusal.{Refusal, ask, ask_each}
 use Rattle.plate.specs.declared.laid.Laid.{Laid}
 use Rattle.plate.specs.Board.{Board}
@@ -9,14 +10,18 @@ use Rattle.plate.specs.Layout.{copy_at, voted_at, line_at, earlier_at, size_of}
 abbrev pub lay_refusal : (number place : ℕ) → Refusal
 lay_refusal number place = record { number = number; word = codes "lay"; place = place }
 
--- `named` is the kind's reading of a byte.
+-- A plate has 1 to 4,096 planes. A round file counts them in 12 bits.
+abbrev pub max_planes : ℕ
+max_planes = 4096
+
+-- `named` gives the cell of a byte.
 abbrev pub tape_questions : {C : Type 0} → (named : ℕ → Option C) → (tape : List ℕ) → ℕ → Option Refusal
 tape_questions named tape i = ask (is_some (named (slice_index tape i))) (lay_refusal 5 i) None
 
 abbrev pub lay_questions : {C : Type 0} → (named : ℕ → Option C) → (n side : ℕ) → (tape : List ℕ) → (memory : ℕ) → Option Refusal
 lay_questions named n side tape memory =
-    ask (nat_le 1 n && nat_le n 4096) (lay_refusal 1 0)
-    (ask (nat_le 2 side && nat_le side 64) (lay_refusal 2 0)
+    ask (nat_le 1 n && nat_le n max_planes) (lay_refusal 1 0)
+    (ask (nat_le min_side side && nat_le side max_side) (lay_refusal 2 0)
     (ask (length tape == n) (lay_refusal 3 0)
     (ask (nat_le (size_of n side) memory) (lay_refusal 4 0)
     (ask_each (tape_questions named tape) n))))
@@ -35,6 +40,6 @@ pub record Lays {C : Type 0} (named : ℕ → Option C) (n side : ℕ) (tape : L
   pub kept : Laid
   pub stands : after.laid ≡ Some kept
   pub planes : kept.planes ≡ n
-  pub age : kept.age ≡ 0
-  pub shadow : IsShadow kept.shadow side no_marks
   pub cells : CellsLaid named n side tape before.cells after.cells
+  pub shadow : IsShadow kept.shadow side no_marks
+  pub age : kept.age ≡ 0

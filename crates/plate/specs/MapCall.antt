@@ -5,8 +5,8 @@ use Rattle.toom.specs.Torus.{total}
 use Rattle.toom.specs.Vote.{wounded}
 use Rattle.hosts.specs.Refusal.{Refusal, ask}
 use Rattle.plate.specs.declared.laid.Laid.{Laid}
+use Rattle.plate.specs.BeatCall.{line}
 use Rattle.plate.specs.Board.{Board, standing, side_of}
-use Rattle.plate.specs.Layout.{line_at}
 
 abbrev pub map_refusal : (number : ℕ) → Refusal
 map_refusal number = record { number = number; word = codes "map"; place = 0 }
@@ -20,7 +20,7 @@ map_questions b room = map_questions_of (standing b) room
 
 -- How many planes' copies at place j, counted row by row, differ from their cell of the line.
 abbrev pub hurt_at : {C : Type 0} → (C → C → Bool) → (n side : ℕ) → List C → C → ℕ → ℕ
-hurt_at equal n side cells d j = total (λ i. wounded equal (slice_index_or cells (line_at n side i) d) (slice_index_or cells (i * (side * side) + j) d)) n
+hurt_at equal n side cells d j = total (λ i. wounded equal (line cells n side d i) (slice_index_or cells (i * (side * side) + j) d)) n
 
 -- The counts at the front of the output, the rest of it as it was.
 pub record Maps {C : Type 0} (equal : C → C → Bool) (b : Board C) (before after : List ℕ) : Type 0 where

@@ -1,4 +1,4 @@
--- Runs of equal cells written into memory.
+-- Equal cells, one after another, written into memory.
 use Rattle.std.specs.Prelude.{◌≡◌, ℕ, ◌+◌, ◌*◌, ◌<◌, ◌≤◌, ◌⊎◌, List, Some, Option, slice_index, slice_index_or}
 use Rattle.plate.specs.Sweep.{Swept}
 

@@ -1,7 +1,8 @@
 -- The plain machine: fed with the calls and their acceptance alone, it keeps the shape, the faultless run and the shadow. It never sees a copy.
-use Rattle.std.specs.Prelude.{ℕ, Bool, true, false, [], ◌∷◌, Some, None, Option, slice_index}
+use Rattle.std.specs.Prelude.{◌≡◌, ℕ, ◌*◌, ◌<◌, Bool, List, true, false, [], ◌∷◌, Some, None, Option, slice_index}
+use Rattle.std.specs.Option.{option_map}
 use Rattle.toom.specs.Shadow.{no_marks, with_mark}
-use Rattle.toom.specs.Torus.{Plane}
+use Rattle.toom.specs.Torus.{Plane, count_marks}
 use Rattle.toom.specs.Vote.{thinned}
 use Rattle.hosts.specs.Ring.{stepped}
 use Rattle.plate.specs.History.{Call, Lay, Strike, Beat, Read, Map, Show, History}
@@ -13,6 +14,14 @@ pub record Plain (C : Type 0) : Type 0 where
   pub side : ℕ
   pub run : ℕ → Option C
   pub shadow : Plane Bool
+
+-- The shadow covers fewer than half of the places.
+abbrev pub FewerThanHalf : {C : Type 0} → Plain C → Type 0
+FewerThanHalf p = 2 * count_marks p.side p.shadow < p.side * p.side
+
+-- The faultless tape has the byte of each cell of the faultless run.
+abbrev pub FaultlessTape : {C : Type 0} → Members C → Plain C → (tape : List ℕ) → Type 0
+FaultlessTape k p tape = (i : ℕ) → i < p.n → option_map k.byte (p.run i) ≡ Some (slice_index tape i)
 
 -- A host's function on cells that are there.
 abbrev pub lifted : {C : Type 0} → (C → C → C → C) → Option C → Option C → Option C → Option C

@@ -9,7 +9,7 @@ use Rattle.plate.specs.Layout.{copy_at}
 abbrev pub strike_refusal : (number : ℕ) → Refusal
 strike_refusal number = record { number = number; word = codes "strike"; place = 0 }
 
--- The questions about the strike itself, for a plate of n planes of this side.
+-- The questions about the strike itself, its place and its byte, for a plate of n planes of this side.
 abbrev pub place_questions : {C : Type 0} → (named : ℕ → Option C) → (n side plane row column byte : ℕ) → Option Refusal
 place_questions named n side plane row column byte =
     ask (nat_lt plane n) (strike_refusal 7)
@@ -31,7 +31,7 @@ pub record Strikes {C : Type 0} (named : ℕ → Option C) (plane row column byt
   pub standing_before : standing before ≡ Some stood
   pub stands : after.laid ≡ Some kept
   pub names : named byte ≡ Some cell
+  pub cells : after.cells ≡ slice_set before.cells (copy_at (side_of stood) plane row column) cell
+  pub shadow : IsShadow kept.shadow (side_of stood) (with_mark (marks stood.shadow) row column)
   pub planes : kept.planes ≡ stood.planes
   pub age : kept.age ≡ stood.age
-  pub shadow : IsShadow kept.shadow (side_of stood) (with_mark (marks stood.shadow) row column)
-  pub cells : after.cells ≡ slice_set before.cells (copy_at (side_of stood) plane row column) cell

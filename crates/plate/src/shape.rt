@@ -1,7 +1,7 @@
 // The shape of a plate: how many planes it has and the side of each, which settle where its cells lie in the memory. The
 // memory goes beside it: each function is passed the whole slice.
 ghost use Rattle.std.specs.Prelude.{◌≡◌, ◌*◌, ◌≤◌};
-ghost use Rattle.toom.specs.Rows.{Side};
+ghost use Rattle.toom.specs.Torus.{Side};
 ghost use Rattle.plate.specs.Layout.{size_of};
 
 #[derive(Clone, Copy)]

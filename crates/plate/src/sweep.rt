@@ -1,6 +1,6 @@
 // Sweeps over a plate's cells: each reads one part of the memory and writes another.
 ghost use Rattle.std.specs.Prelude.{◌+◌, ◌*◌, ◌≤◌, length};
-ghost use Rattle.toom.specs.Rows.{Side};
+ghost use Rattle.toom.specs.Torus.{Side};
 ghost use Rattle.toom.specs.Vote.{vote_of};
 ghost use Rattle.plate.specs.BeatCall.{CellsBeaten};
 ghost use Rattle.plate.specs.Layout.{size_of};

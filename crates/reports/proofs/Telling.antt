@@ -1,11 +1,11 @@
 -- A report tells of the faultless run, by the healing laws of the plate.
-use Rattle.std.proofs.Common.{◌≡◌, ℕ, zero, suc, ◌*◌, ◌<◌, true, false, List, ◌++◌, length, get_or, drop, is_some, Some, None, Option, sym, refl, ap, ◌∙◌, subst, ap₂, inl, inr, arith}
+use Rattle.std.proofs.Common.{◌≡◌, ℕ, zero, suc, ◌*◌, ◌<◌, Bool, true, false, cond, ltb, List, ◌++◌, length, get_or, drop, is_some, Some, None, Option, sym, refl, ap, ◌∙◌, subst, ap₂, inl, inr, ◌≢◌, arith}
 use Rattle.std.proofs.lemmas.List.FromFn.{length-map-range_with_len}
 use Rattle.std.proofs.lemmas.List.{ext_get_or, get_or_append_left}
 use Rattle.std.proofs.lemmas.Bool.{both_ways, cases_Bool, cond-true, le-leb}
 use Rattle.std.specs.Option.{option_map}
 use Rattle.toom.specs.Shadow.{marks}
-use Rattle.toom.specs.Torus.{Everywhere, count_marks, total}
+use Rattle.toom.specs.Torus.{Everywhere, total}
 use Rattle.toom.specs.Vote.{wounded}
 use Rattle.toom.proofs.RowWords.{total_same}
 use Rattle.hosts.specs.Refusal.{Refusal, ask_each}
@@ -15,17 +15,23 @@ use Rattle.plate.specs.Board.{Board, side_of, standing}
 use Rattle.plate.specs.Healing.{Agrees, Healing, Matches}
 use Rattle.plate.specs.History.{History}
 use Rattle.plate.specs.Members.{Members}
-use Rattle.plate.specs.Plain.{Plain, plain}
+use Rattle.plate.specs.Plain.{FaultlessTape, FewerThanHalf, Plain, plain}
 use Rattle.plate.specs.ReadCall.{Reads, plane_question, read_questions, read_questions_of, reading}
 use Rattle.plate.proofs.Follows.{stood_alike}
 use Rattle.plate.proofs.Heals.{always_heals}
 use Rattle.plate.proofs.Standing.{some_same}
-use Rattle.reports.specs.Report.{clear_mark, last_line, last_of, place_mark, tape_line}
+use Rattle.reports.specs.Report.{clear_mark, hurt_mark, last_line, last_of, place_mark, shadow_mark, tape_line}
 use Rattle.reports.specs.Tells.{ReportsTell, map_at}
 
 total_none : (f : ℕ → ℕ) (n : ℕ) → ((k : ℕ) → k < n → f k ≡ 0) → total f n ≡ 0
 total_none f zero none = refl
 total_none f (suc n) none = omega (arith, total_none f n (λ k h. none k (omega arith)), none n (omega arith))
+
+-- A place of the shadow has the mark `#` or `s`.
+never_clear : (hurt shadowed : Bool) → shadowed ≡ true → cond hurt hurt_mark (cond shadowed shadow_mark clear_mark) ≢ clear_mark
+never_clear true true marked clear = let z : ◌≡◌ {A = ℕ} 35 46 = clear in absurd (omega arith)
+never_clear false true marked clear = let z : ◌≡◌ {A = ℕ} 115 46 = clear in absurd (omega arith)
+never_clear hurt false marked clear = absurd (both_ways false refl marked)
 
 -- The plate agrees with the plain machine.
 module _ {C : Type 0} (k : Members C) (reflexive : (x : C) → k.equal x x ≡ true) (p : Plain C) (b : Board C) (agrees : Agrees p b)
@@ -76,9 +82,12 @@ module _ {C : Type 0} (k : Members C) (reflexive : (x : C) → k.equal x x ≡ t
   outside_clear : Everywhere side (λ r c. marks l.shadow r c ≡ false → place_mark (map_at k l b.cells d r c) (marks l.shadow r c) ≡ clear_mark)
   outside_clear r c r< c< clear = ap₂ place_mark (no_hurt r c r< c< clear) clear
 
+  inside_marked : Everywhere side (λ r c. marks l.shadow r c ≡ true → place_mark (map_at k l b.cells d r c) (marks l.shadow r c) ≢ clear_mark)
+  inside_marked r c r< c< marked = never_clear (ltb 0 (map_at k l b.cells d r c)) (marks l.shadow r c) marked
+
 -- A read into an output that just holds the tape.
 module _ {C : Type 0} (k : Members C) (h : History C) (b : Board C) (heals : Healing k h b) (p : Plain C) (is : plain k h ≡ Some p)
-    (few : 2 * count_marks p.side p.shadow < p.side * p.side) (l : Laid) (stands : standing b ≡ Some l) (planes : l.planes ≡ p.n) where
+    (few : FewerThanHalf p) (l : Laid) (stands : standing b ≡ Some l) (planes : l.planes ≡ p.n) where
   abbrev tape : List ℕ
   tape = reading k.equal k.byte l.planes (side_of l) b.cells
 
@@ -104,12 +113,11 @@ module _ {C : Type 0} (k : Members C) (h : History C) (b : Board C) (heals : Hea
       (heals.reads p is few tape (tape ++ drop l.planes tape) true b (accepted, (read, refl)) (omega (arith, tape_long))).1 i (omega arith)
       ∙ ap Some (get_or_append_left tape (drop l.planes tape) 0 i (omega (arith, tape_long)))
 
-  tape_told : (names : List ℕ) → length names ≡ l.planes → ((i : ℕ) → i < l.planes → option_map k.byte (p.run i) ≡ Some (get_or names i 0))
-      → last_of k l b.cells ≡ tape_line names
+  tape_told : (names : List ℕ) → length names ≡ l.planes → FaultlessTape k p names → last_of k l b.cells ≡ tape_line names
   tape_told names long named =
       ap (λ o. last_line o tape) no_split
       ∙ ap tape_line (ext_get_or 0 tape names (tape_long ∙ sym long)
-      (λ i i<. let below : i < l.planes = omega (arith, tape_long) in some_same _ _ (sym (tape_byte i below) ∙ named i below)))
+      (λ i i<. let below : i < l.planes = omega (arith, tape_long) in some_same _ _ (sym (tape_byte i below) ∙ named i (omega (arith, planes)))))
 
 pub reports_tell : {C : Type 0} (k : Members C) → ((x : C) → k.equal x x ≡ true) → ((x y : C) → k.equal x y ≡ true → x ≡ y) → ReportsTell k
 reports_tell k reflexive exact h b p l d reached is stands =
@@ -119,6 +127,7 @@ reports_tell k reflexive exact h b p l d reached is stands =
       runs = λ i i<. (line b.cells l.planes (side_of l) d i, sym (line_is_run k reflexive p b agrees l stands d i i<));
       hurt_means = hurts_mean k reflexive p b agrees l stands d;
       hurt_inside = hurts_inside k reflexive p b agrees l stands d;
+      marked_inside = inside_marked k reflexive p b agrees l stands d;
       clear_outside = outside_clear k reflexive p b agrees l stands d;
       tape_faultless = λ few. tape_told k h b heals p is few l stands (stood_alike p b agrees l stands).planes;
     }

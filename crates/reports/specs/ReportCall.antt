@@ -15,10 +15,14 @@ abbrev pub report_fault : ReportFault → Refusal
 report_fault Bare = report_refusal 6
 report_fault Output = report_refusal 15
 
--- `room` is the length of the output. No report is longer than 12,396 bytes.
+-- No report is longer, so this is the room that it asks for.
+abbrev pub report_bytes : ℕ
+report_bytes = 12396
+
+-- `room` is the length of the output.
 abbrev pub report_questions_of : Option Laid → (room : ℕ) → Option Refusal
 report_questions_of None room = Some (report_refusal 6)
-report_questions_of (Some l) room = ask (nat_le 12396 room) (report_refusal 15) None
+report_questions_of (Some l) room = ask (nat_le report_bytes room) (report_refusal 15) None
 
 abbrev pub report_questions : {C : Type 0} → Board C → (room : ℕ) → Option Refusal
 report_questions b room = report_questions_of (standing b) room

@@ -1,8 +1,7 @@
 -- What a report tells of the faultless run: where its map is 0, what the map counts, and whose tape its last line is.
-use Rattle.std.specs.Prelude.{◌≡◌, ℕ, ◌+◌, ◌*◌, ◌<◌, true, false, List, length, Some, ◌≢◌, slice_index}
-use Rattle.std.specs.Option.{option_map}
+use Rattle.std.specs.Prelude.{◌≡◌, ℕ, ◌+◌, ◌*◌, ◌<◌, true, false, List, length, Some, ◌≢◌}
 use Rattle.toom.specs.Shadow.{marks}
-use Rattle.toom.specs.Torus.{Everywhere, Plane, count_marks, total}
+use Rattle.toom.specs.Torus.{Everywhere, Plane, total}
 use Rattle.toom.specs.Vote.{wounded}
 use Rattle.plate.specs.declared.laid.Laid.{Laid}
 use Rattle.plate.specs.BeatCall.{copies}
@@ -10,7 +9,7 @@ use Rattle.plate.specs.Board.{Board, side_of, standing}
 use Rattle.plate.specs.History.{History, Reached}
 use Rattle.plate.specs.MapCall.{hurt_at}
 use Rattle.plate.specs.Members.{Members}
-use Rattle.plate.specs.Plain.{Plain, plain}
+use Rattle.plate.specs.Plain.{FaultlessTape, FewerThanHalf, Plain, plain}
 use Rattle.reports.specs.Report.{clear_mark, last_of, place_mark, tape_line}
 
 -- What the map of the report has at each place.
@@ -30,10 +29,11 @@ pub record ReportTells {C : Type 0} (k : Members C) (p : Plain C) (l : Laid) (ce
   -- So every place outside the shadow has the mark `.`.
   pub clear_outside : Everywhere (side_of l)
       (λ r c. marks l.shadow r c ≡ false → place_mark (map_at k l cells d r c) (marks l.shadow r c) ≡ clear_mark)
-  -- While the shadow covers fewer than half of the places, the last line is the tape of the faultless run: names are the bytes of its cells.
-  pub tape_faultless : 2 * count_marks p.side p.shadow < p.side * p.side
-      → (names : List ℕ) → length names ≡ l.planes → ((i : ℕ) → i < l.planes → option_map k.byte (p.run i) ≡ Some (slice_index names i))
-      → last_of k l cells ≡ tape_line names
+  -- And no place inside it has: `#` and `s` together are all places of the shadow.
+  pub marked_inside : Everywhere (side_of l)
+      (λ r c. marks l.shadow r c ≡ true → place_mark (map_at k l cells d r c) (marks l.shadow r c) ≢ clear_mark)
+  -- While the shadow covers fewer than half of the places, the last line is the faultless tape.
+  pub tape_faultless : FewerThanHalf p → (tape : List ℕ) → length tape ≡ l.planes → FaultlessTape k p tape → last_of k l cells ≡ tape_line tape
 
 -- After every list of calls on one new plate that leaves it laid. d stands for what lies past the memory.
 abbrev pub ReportsTell : {C : Type 0} → Members C → Type 0

@@ -11,7 +11,7 @@ use Rattle.plate.specs.Members.{Members}
 use Rattle.runs.specs.Leads.{Leads, with_calls}
 use Rattle.runs.specs.RunCall.{calls_of_run, shape_questions}
 use Rattle.runs.specs.RunFaults.{run_fault}
-use Rattle.reports.specs.ReportCall.{Reports, report_fault, report_refusal}
+use Rattle.reports.specs.ReportCall.{Reports, report_bytes, report_fault, report_refusal}
 use Rattle.rounds.specs.declared.fault.PlayFault.{PlayFault}
 use Rattle.rounds.specs.declared.fault.PlayFault.TheVariants as faults
 use Rattle.rounds.specs.declared.file_kind.FileKind.{FileKind}
@@ -33,7 +33,7 @@ entrant kind questions in_bytes meaning = record { kind = kind; questions = ques
 abbrev pub play_questions : {C H : Type 0} → Members C → Entrant C H → (file : List ℕ) → (memory room : ℕ) → Option Refusal
 play_questions k e file memory room =
     option_or (round_questions e.kind file)
-    (ask (nat_le 12396 room) (report_refusal 15)
+    (ask (nat_le report_bytes room) (report_refusal 15)
     (option_or (e.questions (host_in file))
     (option_or (lay_questions k.named (planes_in file) (side_in file) (tape_in file) memory)
     (shape_questions k.named (planes_in file) (side_in file) 0 (beats_in file) (script_in file)))))

@@ -39,15 +39,25 @@ pub record HeaderIn (file : List ℕ) (h : Header) : Type 0 where
   pub host : h.host ≡ host_length file
   pub script : h.script ≡ script_length file
 
+-- The bytes of the header, and the most bytes of a round file and copies of a round.
+abbrev pub header_bytes : ℕ
+header_bytes = 9
+
+abbrev pub max_round : ℕ
+max_round = 65535
+
+abbrev pub max_copies : ℕ
+max_copies = 16384
+
 -- What follows the header: the host, a byte of tape for each plane, the script.
 abbrev pub host_in : List ℕ → List ℕ
-host_in file = take (host_length file) (drop 9 file)
+host_in file = take (host_length file) (drop header_bytes file)
 
 abbrev pub tape_in : List ℕ → List ℕ
-tape_in file = take (planes_in file) (drop (9 + host_length file) file)
+tape_in file = take (planes_in file) (drop (header_bytes + host_length file) file)
 
 abbrev pub script_in : List ℕ → List ℕ
-script_in file = take (script_length file) (drop (9 + host_length file + planes_in file) file)
+script_in file = take (script_length file) (drop (header_bytes + host_length file + planes_in file) file)
 
 abbrev pub round_refusal : (number : ℕ) → Refusal
 round_refusal number = record { number = number; word = codes "round"; place = 0 }
@@ -55,10 +65,10 @@ round_refusal number = record { number = number; word = codes "round"; place = 0
 -- The questions of a file for this kind.
 abbrev pub round_questions : (kind : FileKind) → List ℕ → Option Refusal
 round_questions kind file =
-    ask (nat_le 9 (length file)) (round_refusal 23)
+    ask (nat_le header_bytes (length file)) (round_refusal 23)
     (ask (same_kind (kind_in file) kind) (round_refusal 24)
-    (ask (length file == 9 + host_length file + planes_in file + script_length file && nat_le (length file) 65535) (round_refusal 25)
-    (ask (nat_le (planes_in file * (side_in file * side_in file)) 16384) (round_refusal 26) None)))
+    (ask (length file == header_bytes + host_length file + planes_in file + script_length file && nat_le (length file) max_round) (round_refusal 25)
+    (ask (nat_le (planes_in file * (side_in file * side_in file)) max_copies) (round_refusal 26) None)))
 
 abbrev pub round_fault : RoundFault → Refusal
 round_fault faults.Header = round_refusal 23

@@ -1,6 +1,6 @@
 // A host that a round file can enter: the kind of its cells, and how it is read.
 ghost use Rattle.std.specs.Prelude.{◌≡◌, ℕ, List, Some, None, Option, MatchResult};
-ghost use Rattle.hosts.specs.MachineFile.{machine_refusal, MachineIn};
+ghost use Rattle.hosts.specs.MachineFile.{machine_questions, MachineIn};
 ghost use Rattle.hosts.specs.Refusal.{Refusal};
 ghost use Rattle.rounds.specs.declared.file_kind.FileKind.{FileKind};
 ghost use Rattle.rounds.specs.declared.file_kind.FileKind.TheVariants.{Bits, MachineCells};
@@ -63,7 +63,7 @@ impl Entry<Bit> for Elementary {
 impl Entry<MachineCell> for Machine {
     ghost kind = { MachineCells };
 
-    ghost questions = { machine_refusal };
+    ghost questions = { machine_questions };
 
     ghost is_in = { MachineIn };
 

@@ -1,6 +1,6 @@
 // What a fault is told as: the number of the question that failed, a word and a place.
 ghost use Rattle.std.specs.Prelude.{◌≡◌};
-ghost use Rattle.hosts.specs.MachineFault.{refusal_of};
+ghost use Rattle.hosts.specs.MachineFault.{machine_fault};
 ghost use Rattle.plate.specs.Faults.{lay_fault, strike_fault, beat_fault, read_fault, map_fault, shadow_fault};
 ghost use Rattle.runs.specs.RunFaults.{run_fault};
 ghost use Rattle.reports.specs.ReportCall.{report_fault};
@@ -181,7 +181,7 @@ impl From<ReportFault> for Refusal {
 }
 
 impl From<MachineFault> for Refusal {
-    ghost from_gives = { λ fault refusal. told refusal ≡ refusal_of fault };
+    ghost from_gives = { λ fault refusal. told refusal ≡ machine_fault fault };
 
     fn from(fault: MachineFault) -> Refusal {
         match fault {

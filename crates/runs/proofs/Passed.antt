@@ -6,7 +6,7 @@ use Rattle.std.specs.Option.{option_map}
 use Rattle.hosts.specs.Refusal.{ask_each}
 use Rattle.hosts.proofs.Questions.{asked_each}
 use Rattle.plate.specs.StrikeCall.{place_questions}
-use Rattle.runs.specs.RunCall.{moved, number_before, record_questions, shape_questions}
+use Rattle.runs.specs.RunCall.{at_place, number_before, record_questions, shape_questions}
 use Rattle.runs.specs.Script.{records_in, record_in}
 
 mapped_none : {X Y : Type 0} (f : X → Y) (o : Option X) → option_map f o ≡ None → o ≡ None
@@ -31,13 +31,13 @@ module _ {C : Type 0} (named : ℕ → Option C) (n side age beats : ℕ) (scrip
     pub passed_order : number_before script j ≤ (record_in script j).number
     passed_order = grind (arith, nat_tests, asked)
 
-    moved_asked : option_map (moved j)
+    moved_asked : option_map (at_place j)
         (place_questions named n side (record_in script j).strike.plane (record_in script j).strike.row (record_in script j).strike.column (record_in script j).strike.byte) ≡ None
     moved_asked = grind (arith, nat_tests, asked)
 
     pub passed_strike :
         place_questions named n side (record_in script j).strike.plane (record_in script j).strike.row (record_in script j).strike.column (record_in script j).strike.byte ≡ None
-    passed_strike = mapped_none (moved j) _ moved_asked
+    passed_strike = mapped_none (at_place j) _ moved_asked
 
   -- No record has a higher number than the one before the next.
   pub passed_before : (m : ℕ) → m ≤ records_in script → (j : ℕ) → j < m → (record_in script j).number ≤ number_before script m

@@ -1,6 +1,7 @@
 -- Calls that lead, one after another, from one plate to another.
 use Rattle.std.specs.Prelude.{◌≡◌, ℕ, zero, suc, ◌+◌, ◌≤◌, true, List, [], ◌∷◌, ◌++◌, Some}
 use Rattle.plate.specs.declared.laid.Laid.{Laid}
+use Rattle.plate.specs.BeatCall.{max_age}
 use Rattle.plate.specs.Board.{Board, standing, side_of}
 use Rattle.plate.specs.History.{Call, Beat, History, Outcome}
 use Rattle.plate.specs.Members.{Members}
@@ -34,7 +35,7 @@ pub record YoungFor {C : Type 0} (m : ℕ) (b : Board C) : Type 0 where
   pub side : ℕ
   pub age : ℕ
   pub laid : LaidAs n side age b
-  pub young : age + m ≤ 1048575
+  pub young : age + m ≤ max_age
 
 -- It keeps its shape, and is m beats older.
 abbrev pub Older : {C : Type 0} → (m : ℕ) → (before after : Board C) → Type 0

@@ -4,6 +4,7 @@ use Rattle.std.specs.List.{range_with_len}
 use Rattle.std.specs.Option.{option_map}
 use Rattle.hosts.specs.Refusal.{Refusal, ask, ask_each}
 use Rattle.plate.specs.declared.laid.Laid.{Laid}
+use Rattle.plate.specs.BeatCall.{max_age}
 use Rattle.plate.specs.Board.{Board, standing, side_of}
 use Rattle.plate.specs.History.{Call, Strike, Beat}
 use Rattle.plate.specs.StrikeCall.{place_questions}
@@ -14,8 +15,8 @@ abbrev pub run_refusal : (number place : ℕ) → Refusal
 run_refusal number place = record { number = number; word = codes "run"; place = place }
 
 -- The same refusal, at this place.
-abbrev pub moved : (place : ℕ) → Refusal → Refusal
-moved place r = record { number = r.number; word = r.word; place = place }
+abbrev pub at_place : (place : ℕ) → Refusal → Refusal
+at_place place r = record { number = r.number; word = r.word; place = place }
 
 -- The questions of the record at index k. The number of the record before it is `before`. Those of its strike keep their number and word.
 abbrev pub record_asked : {C : Type 0} → (named : ℕ → Option C) → (n side beats before k : ℕ) → Record → Option Refusal
@@ -23,9 +24,9 @@ record_asked named n side beats before k r =
     ask (r.spare == 0) (run_refusal 12 k)
     (ask (nat_le r.number beats) (run_refusal 13 k)
     (ask (nat_le before r.number) (run_refusal 14 k)
-    (option_map (moved k) (place_questions named n side r.strike.plane r.strike.row r.strike.column r.strike.byte))))
+    (option_map (at_place k) (place_questions named n side r.strike.plane r.strike.row r.strike.column r.strike.byte))))
 
--- The first record has none before it: any number will do.
+-- The first record has none before it, and no number is below 0.
 abbrev pub number_before : List ℕ → ℕ → ℕ
 number_before script zero = 0
 number_before script (suc k) = (record_in script k).number
@@ -33,15 +34,19 @@ number_before script (suc k) = (record_in script k).number
 abbrev pub record_questions : {C : Type 0} → (named : ℕ → Option C) → (n side beats : ℕ) → List ℕ → ℕ → Option Refusal
 record_questions named n side beats script k = record_asked named n side beats (number_before script k) k (record_in script k)
 
+-- A script has at most 8,191 records: its length has 16 bits in a round file.
+abbrev pub max_script : ℕ
+max_script = 65528
+
 abbrev pub script_questions : {C : Type 0} → (named : ℕ → Option C) → (n side beats : ℕ) → List ℕ → Option Refusal
 script_questions named n side beats script =
-    ask (length script % 8 == 0 && nat_le (length script) 65528) (run_refusal 11 0)
+    ask (length script % 8 == 0 && nat_le (length script) max_script) (run_refusal 11 0)
     (ask_each (record_questions named n side beats script) (records_in script))
 
 -- Of a plate of n planes of this side, at this age.
 abbrev pub shape_questions : {C : Type 0} → (named : ℕ → Option C) → (n side age beats : ℕ) → List ℕ → Option Refusal
 shape_questions named n side age beats script =
-    ask (nat_le (age + beats) 1048575) (run_refusal 10 0) (script_questions named n side beats script)
+    ask (nat_le (age + beats) max_age) (run_refusal 10 0) (script_questions named n side beats script)
 
 abbrev pub run_questions_of : {C : Type 0} → (named : ℕ → Option C) → Option Laid → (beats : ℕ) → List ℕ → Option Refusal
 run_questions_of named None beats script = Some (run_refusal 6 0)

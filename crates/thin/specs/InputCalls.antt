@@ -25,8 +25,8 @@ SideRead line r =
     results.MatchResult r (λ shadow. (side_fault (words line) ≡ None) × IsShadow shadow (said_side (words line)) no_marks)
     (λ cause. side_fault (words line) ≡ Some cause)
 
--- The shadow with the place too that the line says, if it says one.
+-- The shadow with the place too that the line says, if it says one; as it was if the line is at fault.
 abbrev pub PlaceMarked : {X : Type 0} → (before : Shadow) → List ℕ → Result X Cause → (after : Shadow) → Type 0
 PlaceMarked before line r after =
     results.MatchResult r (λ _. (place_fault before.side (words line) ≡ None) × IsShadow after before.side (λ r c. marks before r c || says (words line) r c))
-    (λ cause. place_fault before.side (words line) ≡ Some cause)
+    (λ cause. (place_fault before.side (words line) ≡ Some cause) × (after ≡ before))

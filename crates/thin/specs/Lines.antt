@@ -9,7 +9,7 @@ use Rattle.thin.specs.Words.{later_lines}
 abbrev pub lines_left : Lines → List (List ℕ)
 lines_left s = later_lines (options.option_map (λ x. x.now) s.rest)
 
--- The first line that is left, and none after the last.
+-- The first line that is left, and none after the last: nothing is left then.
 abbrev pub LineGiven : (before : Lines) → Option (Bor (List ℕ)) → (after : Lines) → Type 0
 LineGiven before r after =
-    options.MatchOption r (lines_left before ≡ []) (λ line. lines_left before ≡ line.now ∷ lines_left after)
+    options.MatchOption r ((lines_left before ≡ []) × (lines_left after ≡ [])) (λ line. lines_left before ≡ line.now ∷ lines_left after)

@@ -7,9 +7,17 @@ use Rattle.toom.specs.Torus.{Plane, count_marks}
 abbrev pub Appended : {X Y Z : Type 0} → (before : String Z) → Result X Y → (after : String Z) → List ℕ → Type 0
 Appended before r after bytes = OnOk r (string_bytes after ≡ string_bytes before ++ bytes)
 
+-- `s`
+abbrev pub shadow_mark : ℕ
+shadow_mark = 115
+
+-- `.`
+abbrev pub clear_mark : ℕ
+clear_mark = 46
+
 -- `s` for a marked place, `.` for another.
 abbrev pub mark : Bool → ℕ
-mark marked = cond marked 115 46
+mark marked = cond marked shadow_mark clear_mark
 
 -- The first n marks of a row.
 abbrev pub row_marks : Plane Bool → (row n : ℕ) → List ℕ

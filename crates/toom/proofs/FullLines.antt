@@ -1,9 +1,9 @@
 -- Full rows and columns stay, so a triangle as long as the side of the torus need not shrink.
-use Rattle.std.proofs.Common.{◌≡◌, ℕ, zero, suc, ◌+◌, ◌%◌, ◌<◌, Bool, true, eqb, sym, refl, ◌∙◌, inl, inr, mod-lt, mod-eq_of_lt, zero-add, arith}
+use Rattle.std.proofs.Common.{◌≡◌, ℕ, zero, suc, ◌+◌, ◌%◌, ◌<◌, Bool, true, sym, refl, ◌∙◌, inl, inr, mod-lt, mod-eq_of_lt, zero-add, arith}
 use mathlib.Core.Bool.{beq}
 use native.Mathlib.Nat.{zero-mod}
 use Rattle.std.proofs.lemmas.Bool.{eqb-true}
-use Rattle.toom.specs.Lines.{FullRow, FullColumn, LinesStay, BoundIsSharp}
+use Rattle.toom.specs.Lines.{FullRow, FullColumn, LinesStay, BoundIsSharp, row_zero}
 use Rattle.toom.specs.Torus.{Plane, next}
 use Rattle.toom.specs.Triangle.{LiesInTriangle}
 use Rattle.toom.specs.Vote.{thinned_by}
@@ -28,10 +28,6 @@ column_stays side shadow c full (suc j) r r< =
 pub lines_stay : LinesStay
 lines_stay = record { rows = row_stays; columns = column_stays }
 
--- Row 0 alone.
-abbrev row_zero : Plane Bool
-row_zero r c = eqb r 0
-
 row_zero_lies : (side : ℕ) → LiesInTriangle side row_zero 0 0 side
 row_zero_lies side r c r< c< marked = (0, c, omega arith, eqb-true r 0 marked ∙ sym (zero-mod side), rw zero-add (sym (mod-eq_of_lt c<)))
 
@@ -45,4 +41,7 @@ never_shorter side j a b k lies shorter =
     omega arith
 
 pub bound_is_sharp : BoundIsSharp
-bound_is_sharp side = (row_zero, row_zero_lies side, λ j a b k lies. omega (arith, never_shorter side j a b k lies))
+bound_is_sharp = record {
+  lies = row_zero_lies;
+  stays = λ side j a b k lies. omega (arith, never_shorter side j a b k lies);
+}

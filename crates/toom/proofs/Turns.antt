@@ -4,8 +4,8 @@ use mathlib.Core.Bool.{or-false}
 use native.Mathlib.Nat.{mod_self}
 use lib.Bits.{bit_or}
 use Rattle.std.proofs.lemmas.Bool.{cases_lt, eq-eqb, ne_eqb}
-use Rattle.toom.specs.Rows.{Side, Narrow, column}
-use Rattle.toom.specs.Torus.{next}
+use Rattle.toom.specs.Rows.{Narrow, column}
+use Rattle.toom.specs.Torus.{Side, next}
 use Rattle.toom.proofs.Columns.{column_or, narrow_or, column_past, column_left, column_left_last, narrow_left, column_one, narrow_one, one_below}
 
 module _ (side row : ℕ) (s : Side side) (narrow : Narrow side row) where

@@ -1,4 +1,4 @@
--- The bit as a kind of cell: when two bits are the same, and a bit's byte.
+-- The bit as a kind of cell: when two bits are the same, a bit's byte, and the bit of a byte.
 use Rattle.std.specs.Prelude.{ℕ, zero, suc, Bool, true, false, Some, None, Option}
 use Rattle.toom.specs.declared.bit.Bit.{Bit}
 use Rattle.toom.specs.declared.bit.Bit.TheVariants.{Zero, One}

@@ -12,7 +12,8 @@ use Rattle.std.proofs.lemmas.Bool.{and_parts, eqb-true}
 use Rattle.std.proofs.lemmas.Bool.Decides.{Decides-eqb}
 use Rattle.std.proofs.lemmas.Slice.Eq.{slice_eq-Decides}
 use Rattle.toom.specs.declared.shadow.Shadow.{Shadow}
-use Rattle.toom.specs.Rows.{Side, Narrow}
+use Rattle.toom.specs.Rows.{Narrow}
+use Rattle.toom.specs.Torus.{Side}
 use Rattle.toom.specs.Shadow.{equal_shadows}
 
 -- Shadows of the same side and the same rows are equal.
@@ -35,5 +36,6 @@ equal_shadows_decides s t =
       λ e. both_true (eq-eqb _ _ (ap (λ x. x.side) e)) (rows.1 (ap (λ x. x.rows) e)),
     )
 
+-- What a `==` of shadows owes that is written by hand, as the derived one is not.
 pub equal_shadows_laws : IsPartialEquivalence equal_shadows
 equal_shadows_laws = partial_equiv_from_equiv (decided equal_shadows equal_shadows_decides)

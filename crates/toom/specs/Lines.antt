@@ -1,5 +1,5 @@
 -- Full rows and columns of the torus, which no vote thins.
-use Rattle.std.specs.Prelude.{◌≡◌, ℕ, ◌<◌, ◌≤◌, Bool, true}
+use Rattle.std.specs.Prelude.{◌≡◌, ℕ, ◌<◌, ◌≤◌, Bool, true, ◌==◌}
 use Rattle.toom.specs.Torus.{Plane}
 use Rattle.toom.specs.Vote.{thinned_by}
 use Rattle.toom.specs.Triangle.{LiesInTriangle}
@@ -18,10 +18,12 @@ pub record LinesStay : Type 0 where
   pub columns : (side : ℕ) (shadow : Plane Bool) (c : ℕ) → FullColumn side shadow c
       → (j : ℕ) → FullColumn side (thinned_by j side shadow) c
 
--- So a triangle need not shrink if its side is that of the torus: some shadow, as row 0 alone, lies in the triangle of that side at (0, 0), and
--- after any number of votes in none that is smaller, wherever its corner.
-abbrev pub BoundIsSharp : Type 0
-BoundIsSharp =
-    (side : ℕ)
-    → (shadow : Plane Bool) × LiesInTriangle side shadow 0 0 side
-    × ((j a b k : ℕ) → LiesInTriangle side (thinned_by j side shadow) a b k → side ≤ k)
+-- The shadow that is row 0 alone.
+abbrev pub row_zero : Plane Bool
+row_zero r c = r == 0
+
+-- So a triangle need not shrink if its side is that of the torus: row 0 alone lies in the triangle of that side at (0, 0), and after any number
+-- of votes in none that is smaller, wherever its corner.
+pub record BoundIsSharp : Type 0 where
+  pub lies : (side : ℕ) → LiesInTriangle side row_zero 0 0 side
+  pub stays : (side j a b k : ℕ) → LiesInTriangle side (thinned_by j side row_zero) a b k → side ≤ k

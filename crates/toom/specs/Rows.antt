@@ -4,10 +4,6 @@ use Rattle.std.specs.Bool.{beq}
 use Rattle.toom.specs.Torus.{total, next}
 use Rattle.toom.specs.Vote.{vote_of}
 
--- A torus has 2 to 64 rows, and as many columns.
-abbrev pub Side : ℕ → Type 0
-Side side = (2 ≤ side) × (side ≤ 64)
-
 -- Whether the word has its bit for column c.
 abbrev pub column : (word c : ℕ) → Bool
 column word c = word / 2 ^ (63 - c) % 2 == 1

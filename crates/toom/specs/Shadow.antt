@@ -1,4 +1,4 @@
--- The shadow as a plane of bits: its marked places, which determine it.
+-- The shadow as a plane of bits: its side and its marked places, which determine it.
 use Rattle.std.specs.Prelude.{◌≡◌, ℕ, ◌<◌, Bool, false, ◌&&◌, ◌||◌, List, map, ◌==◌, nat_eq, slice_index}
 use Rattle.std.specs.Cmp.Lexicographic.{pointwise}
 use Rattle.std.specs.List.{range_with_len}

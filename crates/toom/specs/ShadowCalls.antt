@@ -3,7 +3,7 @@ use Rattle.std.specs.Prelude.{◌≡◌, ℕ, ◌<◌, ◌≤◌, Bool, List, �
 use Rattle.std.specs.Option as options
 use Rattle.std.specs.Result as results
 use Rattle.toom.specs.declared.shadow.Shadow.{Shadow}
-use Rattle.toom.specs.Rows.{Side}
+use Rattle.toom.specs.Torus.{Side}
 use Rattle.toom.specs.Shadow.{marks, no_marks, with_mark, words_of, OnTorus, IsShadow}
 use Rattle.toom.specs.Vote.{thinned}
 

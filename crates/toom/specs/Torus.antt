@@ -1,5 +1,15 @@
 -- A torus of `side` rows and `side` columns, and planes over it.
-use Rattle.std.specs.Prelude.{ℕ, zero, suc, ◌+◌, ◌%◌, ◌<◌, Bool, cond}
+use Rattle.std.specs.Prelude.{ℕ, zero, suc, ◌+◌, ◌%◌, ◌<◌, ◌≤◌, Bool, cond}
+
+-- A torus has 2 to 64 rows, and as many columns.
+abbrev pub min_side : ℕ
+min_side = 2
+
+abbrev pub max_side : ℕ
+max_side = 64
+
+abbrev pub Side : ℕ → Type 0
+Side side = (min_side ≤ side) × (side ≤ max_side)
 
 -- A plane has a cell at each place, a row and a column. Only the places below the side count.
 abbrev pub Plane : Type 0 → Type 0

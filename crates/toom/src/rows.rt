@@ -3,8 +3,8 @@
 ghost use Rattle.std.specs.Prelude.{◌≡◌, ℕ, ◌<◌, ◌≤◌, ◌||◌, length, ◌==◌, slice_index};
 ghost use Rattle.std.specs.List.{sum_by};
 ghost use Rattle.std.specs.Int.Count.{ones};
-ghost use Rattle.toom.specs.Rows.{Side, Narrow, column, RowVote, RowsVote};
-ghost use Rattle.toom.specs.Torus.{next};
+ghost use Rattle.toom.specs.Rows.{Narrow, column, RowVote, RowsVote};
+ghost use Rattle.toom.specs.Torus.{Side, next};
 
 // The row as its eastern neighbours see it: each column has the bit of the next, the last that of column 0.
 pub(crate) fn turned(row: u64, side: usize) -> u64

@@ -1,6 +1,7 @@
 // The shadow: one plane of bits, the marked places of a torus, a 64-bit word a row.
 ghost use Rattle.std.specs.Prelude.{◌≡◌, ℕ, ◌≤◌, length, slice_index};
-ghost use Rattle.toom.specs.Rows.{Side, Narrow};
+ghost use Rattle.toom.specs.Rows.{Narrow};
+ghost use Rattle.toom.specs.Torus.{Side};
 
 pub mod calls;
 

@@ -4,10 +4,10 @@ use Rattle.std.proofs.lemmas.List.FromFn.{length-map-range_with_len, get_or-map-
 use Rattle.std.specs.List.{range_with_len}
 use Rattle.hosts.specs.declared.entry.Entry.{Entry}
 use Rattle.hosts.specs.declared.machine.Machine.{Machine}
-use Rattle.hosts.specs.MachineFile.{states_in, symbols_in, slot_in, machine_refusal, MachineIn, Bytes}
+use Rattle.hosts.specs.MachineFile.{states_in, symbols_in, slot_in, machine_questions, MachineIn, Bytes}
 use Rattle.hosts.proofs.Tables.{Filled, filled}
 
-module _ (file : List ℕ) (bytes : Bytes file) (good : machine_refusal file ≡ None) where
+module _ (file : List ℕ) (bytes : Bytes file) (good : machine_questions file ≡ None) where
   abbrev table : List (Option Entry)
   table = map (slot_in file) (range_with_len 0 256)
 

@@ -9,7 +9,7 @@ use Rattle.toom.specs.Rows.{row_word}
 use Rattle.toom.specs.Vote.{vote_of, thinned_by}
 use Rattle.hosts.specs.declared.machine.Machine.{Machine}
 use Rattle.hosts.specs.Elementary.{wolfram}
-use Rattle.hosts.specs.MachineFile.{machine_refusal, MachineIn}
+use Rattle.hosts.specs.MachineFile.{machine_questions, MachineIn}
 use Rattle.hosts.specs.MachineRule.{machine_rule}
 use Rattle.plate.specs.Board.{plane_of}
 use Rattle.plate.specs.ReadCall.{holders, majority_of, reading, plane_question, read_refusal}
@@ -47,7 +47,7 @@ pub record WorkedExamples : Type 0 where
   pub rule_110_twice : bits_after (wolfram 110) 2 (0 ∷ 0 ∷ 0 ∷ 0 ∷ 0 ∷ 0 ∷ 0 ∷ 1 ∷ []) ≡ 0 ∷ 0 ∷ 0 ∷ 0 ∷ 0 ∷ 1 ∷ 1 ∷ 1 ∷ []
   pub rule_110_thrice : bits_after (wolfram 110) 3 (0 ∷ 0 ∷ 0 ∷ 0 ∷ 0 ∷ 0 ∷ 0 ∷ 1 ∷ []) ≡ 0 ∷ 0 ∷ 0 ∷ 0 ∷ 1 ∷ 1 ∷ 0 ∷ 1 ∷ []
   -- The busy beaver's file is in order. There is a machine that it gives (and only one: OneMachineEach), and that does what is said above.
-  pub beaver_in_order : machine_refusal beaver ≡ None
+  pub beaver_in_order : machine_questions beaver ≡ None
   pub beaver_there : (m : Machine) × MachineIn beaver m
   pub beaver_does : (m : Machine) → MachineIn beaver m → BeaverDoes (machine_rule m)
   -- A shadow of side 4 with the places (0, 0), (0, 1) and (1, 0): after one vote it is (0, 0) alone, after two it is empty.

@@ -1,7 +1,7 @@
 // Reading a machine file.
 ghost use Rattle.std.specs.Prelude.{◌≡◌, ℕ, ◌+◌, ◌-◌, ◌*◌, ◌<◌, ◌≤◌, length, Some, None, IsNone, MatchResult, slice_index_or};
-ghost use Rattle.hosts.specs.MachineFault.{refusal_of};
-ghost use Rattle.hosts.specs.MachineFile.{states_in, symbols_in, entry_in, entry_questions, header_refusal, machine_refusal, slot_in, MachineIn};
+ghost use Rattle.hosts.specs.MachineFault.{machine_fault};
+ghost use Rattle.hosts.specs.MachineFile.{states_in, symbols_in, entry_in, entry_questions, header_questions, machine_questions, slot_in, MachineIn};
 ghost use Rattle.hosts.specs.Table.{Sizes};
 
 use crate::entry::{Entry, Motion};
@@ -14,7 +14,7 @@ struct MachineFile<'a> {
     bytes: &'a [u8],
     states: u8,
     symbols: u8,
-    ghost header: { IsNone (header_refusal bytes.now) },
+    ghost header: { IsNone (header_questions bytes.now) },
     ghost states_read: { states ≡ states_in bytes.now },
     ghost symbols_read: { symbols ≡ symbols_in bytes.now },
     ghost sized: { Sizes states symbols },
@@ -23,7 +23,7 @@ struct MachineFile<'a> {
 impl<'a> MachineFile<'a> {
     // The file, if its header is in order.
     fn open(bytes: &'a [u8]) -> Result<MachineFile<'a>, MachineFault>
-        ensures { MatchResult result (λ file. file.bytes.now ≡ bytes.now) (λ e. header_refusal bytes.now ≡ Some (refusal_of e)) }
+        ensures { MatchResult result (λ file. file.bytes.now ≡ bytes.now) (λ e. header_questions bytes.now ≡ Some (machine_fault e)) }
     {
         let [first, ..] = bytes else {
             return Err(MachineFault::Header);
@@ -48,7 +48,7 @@ impl<'a> MachineFile<'a> {
         requires from_one { 1 ≤ state }
         requires state { state ≤ self.now.states }
         requires symbol { symbol < self.now.symbols }
-        ensures { let k = (state - 1) * self.now.symbols + symbol in MatchResult result (λ e. (entry_questions self.now.bytes.now k ≡ None) × (e ≡ entry_in self.now.bytes.now k)) (λ e. entry_questions self.now.bytes.now k ≡ Some (refusal_of e)) }
+        ensures { let k = (state - 1) * self.now.symbols + symbol in MatchResult result (λ e. (entry_questions self.now.bytes.now k ≡ None) × (e ≡ entry_in self.now.bytes.now k)) (λ e. entry_questions self.now.bytes.now k ≡ Some (machine_fault e)) }
     {
         let entry = (state as usize - 1) * self.symbols as usize + symbol as usize;
         let high = self.bytes[1 + 2 * entry];
@@ -74,7 +74,7 @@ impl<'a> MachineFile<'a> {
 
     // The whole table, or what is wrong with the entries first: they are asked in the order of the file.
     fn table(&self) -> Result<[Option<Entry>; 256], MachineFault>
-        ensures { MatchResult result (λ table. (machine_refusal self.now.bytes.now ≡ None) × (length table ≡ 256) × ((i : ℕ) → i < 256 → slice_index_or table i None ≡ slot_in self.now.bytes.now i)) (λ e. machine_refusal self.now.bytes.now ≡ Some (refusal_of e)) }
+        ensures { MatchResult result (λ table. (machine_questions self.now.bytes.now ≡ None) × (length table ≡ 256) × ((i : ℕ) → i < 256 → slice_index_or table i None ≡ slot_in self.now.bytes.now i)) (λ e. machine_questions self.now.bytes.now ≡ Some (machine_fault e)) }
     {
         let mut table = [None; 256];
         for state in 1..=self.states {
@@ -89,7 +89,7 @@ impl<'a> MachineFile<'a> {
 impl Machine {
     // The machine of a file in order, or what is wrong with the file first.
     pub fn read(file: &[u8]) -> Result<Machine, MachineFault>
-        ensures { MatchResult result (λ m. (machine_refusal file.now ≡ None) × MachineIn file.now m) (λ e. machine_refusal file.now ≡ Some (refusal_of e)) }
+        ensures { MatchResult result (λ m. (machine_questions file.now ≡ None) × MachineIn file.now m) (λ e. machine_questions file.now ≡ Some (machine_fault e)) }
     {
         let file = MachineFile::open(file)?;
         let table = file.table()?;

@@ -34,6 +34,7 @@ impl Shadow {
         self.side
     }
 
+    // Whether the place is marked. Row and column are two numbers, and not a type of places: each may be off the torus, which is asked.
     pub fn holds(&self, row: usize, column: usize) -> Option<bool>
         ensures { Asked self.now row column result }
     {
