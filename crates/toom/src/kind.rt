@@ -20,7 +20,7 @@ pub trait Kind: Copy + Eq {
 
     ghost exact: { (x y : Self) → Self.eq x y ≡ true → x ≡ y };
 
-    // A cell's byte is a byte and reads back as that cell; a byte that reads as a cell is that cell's byte.
+    // A cell's byte is a byte and names that cell; a byte that names a cell is that cell's byte.
     ghost bounded: { (x : Self) → byte_of x < 256 };
 
     ghost readback: { (x : Self) → cell_of (byte_of x) ≡ Some x };
