@@ -8,3 +8,4 @@ pub mod Playing
 pub mod RefusedLine
 pub mod RefusedRoom
 pub mod Within
+pub mod Words

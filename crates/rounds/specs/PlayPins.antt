@@ -4,9 +4,11 @@ use Rattle.hosts.specs.Refusal.{Refusal}
 use Rattle.plate.specs.Members.{Members}
 use Rattle.rounds.specs.declared.fault.PlayFault.{PlayFault}
 use Rattle.rounds.specs.declared.fault.RefusedFault.{RefusedFault}
+use Rattle.rounds.specs.declared.refusal.Refusal as code
 use Rattle.rounds.specs.PlayCall.{Entrant, PlayAnswers, play_fault}
 use Rattle.rounds.specs.RefusedCall.{RefusedAnswers}
 use Rattle.rounds.specs.ReplyCall.{Replies}
+use Rattle.rounds.specs.Told.{told}
 
 -- Two ends of one play: the same answer, the same memory and the same output.
 abbrev pub PlayPins : {C H : Type 0} → Members C → Entrant C H → Type 0
@@ -30,3 +32,7 @@ abbrev pub RefusedPins : Type 0
 RefusedPins =
     (refusal : Refusal) (out out₁ out₂ : List ℕ) (r r' : Result ℕ RefusedFault) → RefusedAnswers refusal r out out₁
     → RefusedAnswers refusal r' out out₂ → (r ≡ r') × (out₁ ≡ out₂)
+
+-- Refusals of the code that are told alike are the same.
+abbrev pub WordsPin : Type 0
+WordsPin = (r s : code.Refusal) → told r ≡ told s → r ≡ s

@@ -3,19 +3,20 @@ ghost use Rattle.plate.specs.Plates.{members};
 ghost use Rattle.rounds.specs.FileKind.{FileKindsPin};
 ghost use Rattle.rounds.specs.Memory.{MemorySuffices};
 ghost use Rattle.rounds.specs.PlayCall.{entrant};
-ghost use Rattle.rounds.specs.PlayPins.{PlayFaultsPin, PlayPins, RefusedPins, ReplyPins};
+ghost use Rattle.rounds.specs.PlayPins.{PlayFaultsPin, PlayPins, RefusedPins, ReplyPins, WordsPin};
 
 use crate::entry::Entry;
 use toom::kind::Kind;
 
 // The outcome of a play settles its end: the answer, every cell of the memory and every byte of the output. So do those of reply and
-// refused. And a kind tells its number.
+// refused. And a kind tells its number, and what a refusal is told as tells the refusal.
 pub fn rounds_pin<C: Kind, H: Entry<C>>()
     ensures play { PlayPins (members C.eq C.byte_of C.cell_of) (entrant H.kind H.questions H.is_in H.Host.meaning) }
     ensures faults { PlayFaultsPin }
     ensures reply { ReplyPins (members C.eq C.byte_of C.cell_of) (entrant H.kind H.questions H.is_in H.Host.meaning) }
     ensures refused { RefusedPins }
     ensures kinds { FileKindsPin }
+    ensures words { WordsPin }
 {}
 
 // No round needs more than ROUND_CELLS cells.

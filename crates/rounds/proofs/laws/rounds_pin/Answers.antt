@@ -2,6 +2,7 @@ use Rattle.plate.specs.Plates.{members}
 use Rattle.rounds.specs.PlayCall.{entrant}
 use Rattle.rounds.proofs.FileKinds.{file_kinds_pin}
 use Rattle.rounds.proofs.PlayPins.{play_faults_pin, play_pins, refused_pins, reply_pins}
+use Rattle.rounds.proofs.Words.{words_pin}
 use Rattle.rounds.proofs.laws.rounds_pin.Goals as goal
 
 pub returns : goal.returns
@@ -14,4 +15,5 @@ returns g c =
       reply = reply_pins k e g.met.H.Entry.once;
       refused = refused_pins;
       kinds = file_kinds_pin;
+      words = words_pin;
     }
