@@ -1,5 +1,5 @@
--- A session leaves what its history leaves, so the healing laws hold after it.
-use Rattle.std.proofs.Common.{◌≡◌, true, Ok, Err, sym, subst}
+-- A session leaves what its history leaves, so the healing laws hold after it; with a report it goes on.
+use Rattle.std.proofs.Common.{◌≡◌, ℕ, true, List, Ok, Err, Result, sym, refl, subst}
 use Rattle.plate.specs.Board.{Board}
 use Rattle.plate.specs.History as history
 use Rattle.plate.specs.History.{Reached}
@@ -7,7 +7,9 @@ use Rattle.plate.specs.Members.{Members}
 use Rattle.plate.proofs.Heals.{always_heals}
 use Rattle.runs.specs.RunCall.{calls_of_run}
 use Rattle.runs.proofs.Leading.{reached_with}
-use Rattle.reports.specs.Session.{ComesTo, Own, Report, Run, Session, SessionHeals, more, new, unrolled}
+use Rattle.reports.specs.declared.fault.ReportFault.{ReportFault}
+use Rattle.reports.specs.ReportCall.{ReportAnswers}
+use Rattle.reports.specs.Session.{ComesTo, Own, Report, ReportGoesOn, Run, Session, SessionHeals, more, new, unrolled}
 
 module _ {C : Type 0} (k : Members C) where
   history_reached : {s : Session C} {b : Board C} → ComesTo k s b → Reached k (unrolled s) b
@@ -23,3 +25,8 @@ module _ {C : Type 0} (k : Members C) where
   pub session_heals : ((x : C) → k.equal x x ≡ true) → ((x y : C) → k.equal x y ≡ true → x ≡ y) → SessionHeals k
   session_heals reflexive exact s b came =
       let reached = history_reached came in (reached, always_heals k reflexive exact (unrolled s) b reached)
+
+  pub report_goes_on : ((x : C) → k.equal x x ≡ true) → ((x y : C) → k.equal x y ≡ true → x ≡ y) → (b : Board C) (before after : List ℕ)
+      (r : Result ℕ ReportFault) → ReportAnswers k r b before after → ReportGoesOn k r b before after
+  report_goes_on reflexive exact b before after r outcome s came =
+      (more (Report before after r) came (outcome, refl), (session_heals reflexive exact s b came).1)
