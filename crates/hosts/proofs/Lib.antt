@@ -1,3 +1,4 @@
+pub mod Deeds
 pub mod Entries
 pub mod FileBytes
 pub mod FileEntries

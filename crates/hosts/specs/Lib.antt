@@ -1,3 +1,4 @@
+pub mod Deed
 pub mod Digit
 pub mod Elementary
 pub mod MachineFault
@@ -5,5 +6,6 @@ pub mod MachineFile
 pub mod MachineRule
 pub mod Refusal
 pub mod Ring
+pub mod Sent
 pub mod Table
 pub mod Turing

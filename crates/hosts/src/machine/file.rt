@@ -6,6 +6,7 @@ ghost use Rattle.hosts.specs.Table.{Sizes};
 
 use crate::entry::{Entry, Motion};
 use crate::machine::Machine;
+use crate::machine::deeds::deeds_of;
 use crate::machine::fault::MachineFault;
 
 // A file whose header is in order, and its numbers of states and symbols.
@@ -97,6 +98,7 @@ impl Machine {
             states: file.states,
             symbols: file.symbols,
             table,
+            deeds: deeds_of(&table),
         })
     }
 }

@@ -1,43 +1,35 @@
 // The machine host: a Turing machine on cells of head and symbol.
-ghost use Rattle.std.specs.Prelude.{◌≡◌};
-ghost use Rattle.hosts.specs.MachineRule.{entry_of, moving, arriving, new_head, new_symbol, machine_rule};
+ghost use Rattle.std.specs.Prelude.{◌≡◌, ◌<◌};
+ghost use Rattle.hosts.specs.Deed.{deed_of, first_of};
+ghost use Rattle.hosts.specs.Digit.{head_of, symbol_of};
+ghost use Rattle.hosts.specs.MachineRule.{entry_of, machine_rule};
 
-use crate::entry::{Entry, Motion};
 use crate::host::Host;
 use crate::machine::Machine;
+use crate::machine::deed::Deed;
 use toom::machine_cell::MachineCell;
 
 impl Machine {
-    // The entry of a live cell, none of another: one look at its slot.
-    fn entry(&self, cell: MachineCell) -> Option<Entry>
-        ensures { result ≡ entry_of self.now cell }
+    // What the cell does: one look at its slot.
+    fn deed(&self, cell: MachineCell) -> Deed
+        ensures { result ≡ deed_of (head_of cell) (symbol_of cell) (entry_of self.now cell) }
     {
-        self.table[(16 * cell.head + cell.symbol) as usize]
+        self.deeds[(16 * cell.head + cell.symbol) as usize]
     }
 }
 
-// The entry, if it moves the head so.
-fn if_moving(entry: Option<Entry>, motion: Motion) -> Option<Entry>
-    ensures { result ≡ moving motion entry }
+// The head that stays at the centre, else the one that the left cell sends, else the one that the right cell sends.
+fn next_head(centre: Deed, left: Deed, right: Deed) -> u8
+    ensures value { result ≡ first_of centre.stays left.goes_right right.goes_left }
+    ensures fits { result < 16 }
 {
-    entry.filter(|e| e.motion == motion)
-}
-
-// The state that arrives at the centre, or 0.
-fn next_head(left: Option<Entry>, centre: Option<Entry>, right: Option<Entry>) -> u8
-    ensures { result ≡ (new_head (arriving left centre right)).value }
-{
-    if_moving(centre, Motion::Stay)
-        .or(if_moving(left, Motion::Right))
-        .or(if_moving(right, Motion::Left))
-        .map_or(0, |e| e.next)
-}
-
-// The symbol that the centre's entry writes, or the centre's own.
-fn next_symbol(centre: MachineCell, own: Option<Entry>) -> u8
-    ensures { result ≡ (new_symbol centre own).value }
-{
-    own.map_or(centre.symbol, |e| e.symbol)
+    if centre.stays != 0 {
+        centre.stays
+    } else if left.goes_right != 0 {
+        left.goes_right
+    } else {
+        right.goes_left
+    }
 }
 
 impl Host<MachineCell> for Machine {
@@ -46,12 +38,11 @@ impl Host<MachineCell> for Machine {
     fn answer(&self, left: MachineCell, centre: MachineCell, right: MachineCell) -> MachineCell
         ensures { result ≡ machine_rule self.now left centre right }
     {
-        let own = self.entry(centre);
-        if centre.head != 0 && own.is_none() {
-            return centre;
+        let own = self.deed(centre);
+        let head = next_head(own, self.deed(left), self.deed(right));
+        MachineCell {
+            head,
+            symbol: own.symbol,
         }
-        let head = next_head(self.entry(left), own, self.entry(right));
-        let symbol = next_symbol(centre, own);
-        MachineCell { head, symbol }
     }
 }

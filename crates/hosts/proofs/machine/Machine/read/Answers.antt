@@ -6,7 +6,7 @@ pub invariant_of-result : goal.invariant_of-result
 invariant_of-result c =
     let table = c.in_ok-table.ensures in
     let facts = read_from c.args.file.now c.in_ok-file.file _ (λ i. omega (arith, c.type_inv.file i)) c.in_ok-file.ensures table in
-    record { sized = facts.filled.sized; whole = table.1; used = facts.filled.used; unused = facts.filled.unused }
+    record { sized = facts.filled.sized; whole = table.1; used = facts.filled.used; unused = facts.filled.unused; told = c.deeds_of.ensures.long; done = c.deeds_of.ensures.each }
 
 pub returns : goal.returns
 returns c =
