@@ -26,6 +26,7 @@ pub mod Strikes
 pub mod Sweeps
 pub mod SweptAll
 pub mod SweptBeats
+pub mod SweptColumns
 pub mod SweptPlanes
 pub mod SweptRings
 pub mod SweptRows

@@ -60,7 +60,8 @@ fn vote_row<C: Kind>(cells: &mut [C], to: usize, north: usize, own: usize, side:
     fill(&Ballot, cells, to + last, north + last, own, own + last, 1);
 }
 
-// Votes the plane at own. North of the last row is the first. The side and no shape: it is one plane of those of a shape.
+// Votes the plane at own. All rows but the last are voted in one sweep, with an east that is wrong in the last column: so that column is voted
+// again. Many short sweeps would take longer. North of the last row is the first. The side and no shape: it is one plane of those of a shape.
 fn vote_plane<C: Kind>(cells: &mut [C], to: usize, own: usize, side: usize)
     requires side { Side side }
     requires to { to + side * side ≤ length cells.old }
@@ -68,10 +69,19 @@ fn vote_plane<C: Kind>(cells: &mut [C], to: usize, own: usize, side: usize)
     ensures { Swept to (side * side) (PlaneVotes C.eq own side cells.old) cells.old cells.new }
 {
     let last = side - 1;
+    fill(&Ballot, cells, to, own + side, own + 1, own, last * side);
     // By index: a row is read with the next one, out of the slice that is written.
     for r in 0..last {
         let row = r * side;
-        vote_row(cells, to + row, own + row + side, own + row, side);
+        fill(
+            &Ballot,
+            cells,
+            to + row + last,
+            own + row + side + last,
+            own + row,
+            own + row + last,
+            1,
+        );
     }
     let row = last * side;
     vote_row(cells, to + row, own, own + row, side);

@@ -1,7 +1,5 @@
-use Rattle.std.proofs.Common.{◌*◌}
-use Rattle.plate.specs.Sweep.{Swept, PlaneVotes}
+use Rattle.plate.proofs.SweptColumns.{Columns}
 use Rattle.plate.proofs.sweep.vote_plane.Given as goal
 
 abbrev pub invariant-loop-r : goal.invariant-loop-r
-invariant-loop-r g l =
-    Swept l.to (l.r * l.side) (PlaneVotes g.C.PartialEq.eq l.own l.side l.initial.cells) l.initial.cells l.cells
+invariant-loop-r g l = Columns g.C.PartialEq.eq l.to l.own l.side l.fn.cells l.r l.cells
