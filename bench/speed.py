@@ -126,7 +126,7 @@ def main():
     parser = argparse.ArgumentParser(usage=__doc__)
     parser.add_argument("--round", default=f"{HERE}/../crates/round/out/round")
     parser.add_argument("--plain")
-    parser.add_argument("--repeat", type=int, default=7)
+    parser.add_argument("--repeat", type=int, default=5)
     parser.add_argument("--rows", default="")
     asked = parser.parse_args()
     if not os.access(asked.round, os.X_OK):
