@@ -1,8 +1,11 @@
 // The healing laws of every plate, and that each outcome pins its end, as the contracts of functions that do nothing.
+ghost use Rattle.std.specs.Prelude.{◌≡◌, Decides};
 ghost use Rattle.plate.specs.Healing.{AlwaysHeals};
 ghost use Rattle.plate.specs.Pins.{OutcomesPin, AnswersPin, FaultsPin};
 ghost use Rattle.plate.specs.Plates.{members};
 
+use crate::fault::{BeatFault, LayFault, MapFault, ReadFault, ShadowFault, StrikeFault};
+use crate::strike::Strike;
 use toom::kind::Kind;
 
 // For every kind of cell, after every list of calls on one new plate, each beat with a host of its own: outside the shadow the copies are the
@@ -16,4 +19,15 @@ pub fn outcomes_pin<C: Kind>()
     ensures ends { OutcomesPin (members C.eq C.byte_of C.cell_of) }
     ensures answers { AnswersPin (members C.eq C.byte_of C.cell_of) }
     ensures faults { FaultsPin }
+{}
+
+// `==` of strikes and of faults decides equality.
+pub fn sameness_is_equality()
+    ensures strikes { (x y : Strike) → Decides (⟦<Strike as PartialEq>⟧.eq x y) (x ≡ y) }
+    ensures lay { (x y : LayFault) → Decides (⟦<LayFault as PartialEq>⟧.eq x y) (x ≡ y) }
+    ensures strike { (x y : StrikeFault) → Decides (⟦<StrikeFault as PartialEq>⟧.eq x y) (x ≡ y) }
+    ensures beat { (x y : BeatFault) → Decides (⟦<BeatFault as PartialEq>⟧.eq x y) (x ≡ y) }
+    ensures read { (x y : ReadFault) → Decides (⟦<ReadFault as PartialEq>⟧.eq x y) (x ≡ y) }
+    ensures map { (x y : MapFault) → Decides (⟦<MapFault as PartialEq>⟧.eq x y) (x ≡ y) }
+    ensures shadow { (x y : ShadowFault) → Decides (⟦<ShadowFault as PartialEq>⟧.eq x y) (x ≡ y) }
 {}

@@ -1,10 +1,12 @@
 // What holds of every report and of all calls on a plate together, as the contracts of functions that do nothing.
+ghost use Rattle.std.specs.Prelude.{◌≡◌, Decides};
 ghost use Rattle.plate.specs.Plates.{members};
 ghost use Rattle.reports.specs.ReportPins.{ReportFaultsPin, ReportPins};
 ghost use Rattle.reports.specs.Room.{ReportFits};
 ghost use Rattle.reports.specs.Session.{SessionHeals};
 ghost use Rattle.reports.specs.Tells.{ReportsTell};
 
+use crate::fault::ReportFault;
 use toom::kind::Kind;
 
 // No report is longer than REPORT_BYTES.
@@ -27,4 +29,9 @@ pub fn report_tells<C: Kind>()
 // The healing laws hold after every list of calls on one new plate, runs and reports among them.
 pub fn session_heals<C: Kind>()
     ensures { SessionHeals (members C.eq C.byte_of C.cell_of) }
+{}
+
+// `==` of faults decides equality.
+pub fn sameness_is_equality()
+    ensures faults { (x y : ReportFault) → Decides (⟦<ReportFault as PartialEq>⟧.eq x y) (x ≡ y) }
 {}

@@ -1,4 +1,5 @@
 // That the outcomes of play, reply and refused pin their ends, and that ROUND_CELLS suffice, as the contracts of functions that do nothing.
+ghost use Rattle.std.specs.Prelude.{◌≡◌, Decides};
 ghost use Rattle.plate.specs.Plates.{members};
 ghost use Rattle.rounds.specs.FileKind.{FileKindsPin};
 ghost use Rattle.rounds.specs.Memory.{MemorySuffices};
@@ -6,6 +7,9 @@ ghost use Rattle.rounds.specs.PlayCall.{entrant};
 ghost use Rattle.rounds.specs.PlayPins.{PlayFaultsPin, PlayPins, RefusedPins, ReplyPins, WordsPin};
 
 use crate::entry::Entry;
+use crate::fault::{HostFault, PlayFault, RefusedFault, RoundFault};
+use crate::file_kind::FileKind;
+use crate::refusal::{Refusal, Word};
 use toom::kind::Kind;
 
 // The outcome of a play settles its end: the answer, every cell of the memory and every byte of the output. So do those of reply and
@@ -22,4 +26,15 @@ pub fn rounds_pin<C: Kind, H: Entry<C>>()
 // No round needs more than ROUND_CELLS cells.
 pub fn memory_suffices()
     ensures { MemorySuffices }
+{}
+
+// `==` of kinds, of faults, of words and of refusals decides equality.
+pub fn sameness_is_equality()
+    ensures kinds { (x y : FileKind) → Decides (⟦<FileKind as PartialEq>⟧.eq x y) (x ≡ y) }
+    ensures round { (x y : RoundFault) → Decides (⟦<RoundFault as PartialEq>⟧.eq x y) (x ≡ y) }
+    ensures host { (x y : HostFault) → Decides (⟦<HostFault as PartialEq>⟧.eq x y) (x ≡ y) }
+    ensures refused { (x y : RefusedFault) → Decides (⟦<RefusedFault as PartialEq>⟧.eq x y) (x ≡ y) }
+    ensures play { (x y : PlayFault) → Decides (⟦<PlayFault as PartialEq>⟧.eq x y) (x ≡ y) }
+    ensures words { (x y : Word) → Decides (⟦<Word as PartialEq>⟧.eq x y) (x ≡ y) }
+    ensures refusals { (x y : Refusal) → Decides (⟦<Refusal as PartialEq>⟧.eq x y) (x ≡ y) }
 {}
