@@ -1,2 +1,5 @@
 pub mod Answering
+pub mod Filling
+pub mod Pinning
+pub mod Playing
 pub mod Replying

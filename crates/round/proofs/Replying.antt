@@ -1,5 +1,5 @@
 -- A reply whose error is mapped is still that reply.
-use Rattle.std.proofs.Common.{◌≡◌, ℕ, List, length, IfOk, Ok, Err, Result, MatchResult, is_ok, sym, subst}
+use Rattle.std.proofs.Common.{◌≡◌, ℕ, List, replicate, IfOk, Some, Ok, Err, Result, MatchResult, is_ok, sym, ◌∙◌, subst}
 use Rattle.plate.specs.Members.{Members}
 use Rattle.rounds.specs.declared.fault.RefusedFault.{RefusedFault}
 use Rattle.rounds.specs.PlayCall.{Entrant}
@@ -13,7 +13,13 @@ ok_kept (Ok x) s P Q cases variant holds = subst (λ s. IfOk s P) (sym cases) ho
 ok_kept (Err d) (Ok x) P Q cases variant holds = cc
 ok_kept (Err d) (Err e) P Q cases variant holds = tt
 
-pub replied : {C H : Type 0} (k : Members C) (e : Entrant C H) (file : List ℕ) (r : Result ℕ RefusedFault) (cells cells' : List C) (out out' : List ℕ)
-    → length cells ≡ 40960 → Replies k e file r cells cells' out out' → IfOk r (λ n. Replied k e file n out out')
-replied k e file (Ok n) cells cells' out out' enough replies = record { cells = cells; cells' = cells'; enough = enough; replies = replies }
-replied k e file (Err f) cells cells' out out' enough replies = tt
+pub replied : {C H : Type 0} (k : Members C) (e : Entrant C H) (file : List ℕ) (r : Result ℕ RefusedFault) (made cells cells' : List C) (out out' : List ℕ)
+    (blank : C) → k.named 0 ≡ Some blank → made ≡ replicate 40960 blank → cells ≡ made → Replies k e file r cells cells' out out'
+    → IfOk r (λ n. Replied k e file n out out')
+replied k e file (Ok n) made cells cells' out out' blank named all same replies = record {
+  blank = blank;
+  cells' = cells';
+  named = named;
+  replies = subst (λ c. Replies k e file (Ok n) c cells' out out') (same ∙ all) replies;
+}
+replied k e file (Err f) made cells cells' out out' blank named all same replies = tt

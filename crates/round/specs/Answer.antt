@@ -1,5 +1,6 @@
 -- What the program answers to a round.
-use Rattle.std.specs.Prelude.{◌≡◌, ℕ, List, length, Ok}
+use Rattle.std.specs.Prelude.{◌≡◌, ℕ, List, take, replicate, Some, Ok, Option}
+use Rattle.std.specs.Io.KnownBytes.{Appends}
 use Rattle.toom.specs.Bit.{bit_of_byte, byte_of_bit, equal_bits}
 use Rattle.toom.specs.MachineCell.{byte_of_machine_cell, equal_machine_cells, machine_cell_of_byte}
 use Rattle.hosts.specs.declared.elementary.Elementary.{Elementary}
@@ -15,12 +16,12 @@ use Rattle.rounds.specs.PlayCall.{Entrant, entrant}
 use Rattle.rounds.specs.ReplyCall.{Replies}
 use Rattle.rounds.specs.RoundFile.{kind_in}
 
--- The reply to the round, n bytes long, made in memory that suffices for every round.
+-- The reply to the round, n bytes long, over 40,960 cells, which suffice for every round. They are all the cell that the byte 00 names.
 pub record Replied {C H : Type 0} (k : Members C) (e : Entrant C H) (file : List ℕ) (n : ℕ) (out out' : List ℕ) : Type 0 where
-  pub cells : List C
+  pub blank : C
   pub cells' : List C
-  pub enough : length cells ≡ 40960
-  pub replies : Replies k e file (Ok n) cells cells' out out'
+  pub named : k.named 0 ≡ Some blank
+  pub replies : Replies k e file (Ok n) (replicate 40960 blank) cells' out out'
 
 -- Rounds of machine cells.
 abbrev pub MachineReplied : (file : List ℕ) → (n : ℕ) → (out out' : List ℕ) → Type 0
@@ -40,3 +41,18 @@ RepliedTo (Other number) = BitsReplied
 -- A file of machine cells gets their reply, every other that of bits.
 abbrev pub Answered : (file : List ℕ) → (n : ℕ) → (out out' : List ℕ) → Type 0
 Answered file = RepliedTo (kind_in file) file
+
+-- The text of a reply: what it writes at the front of an output of 12,396 zeros.
+pub record IsReply (file text : List ℕ) : Type 0 where
+  pub n : ℕ
+  pub out : List ℕ
+  pub answered : Answered file n (replicate 12396 0) out
+  pub text_of : text ≡ take n out
+
+-- A file has one reply.
+abbrev pub OneReplyEach : Type 0
+OneReplyEach = (file text other : List ℕ) → IsReply file text → IsReply file other → text ≡ other
+
+-- The reply to the file is put after what was written before.
+abbrev pub AppendsReply : (file : List ℕ) → (before after : Option (List ℕ)) → Type 0
+AppendsReply file before after = (text : List ℕ) × IsReply file text × Appends before after text

@@ -2,10 +2,10 @@
 // `within` holds an answer against the output, so no type of either could say it.
 #![tactic(auto)]
 
-ghost use Rattle.std.specs.Prelude.{◌≡◌, ◌≤◌, length, IfOk};
+ghost use Rattle.std.specs.Prelude.{◌≡◌, ◌≤◌, length, take, Some, IfOk, IfSome, OnOk};
 ghost use Rattle.plate.specs.Plates.{members};
 ghost use Rattle.rounds.specs.PlayCall.{entrant};
-ghost use Rattle.round.specs.Answer.{Answered, Replied};
+ghost use Rattle.round.specs.Answer.{Answered, AppendsReply, OneReplyEach, Replied};
 
 use anyhow::anyhow;
 use hosts::elementary::Elementary;
@@ -16,7 +16,7 @@ use rounds::file_kind::FileKind;
 use rounds::reply::reply;
 use rounds::round::{MAX_ROUND, ROUND_CELLS, kind};
 use std::alloc::Global;
-use std::io::Read;
+use std::io::{Read, Write};
 use std::{env, fs};
 use toom::bit::Bit;
 use toom::kind::Kind;
@@ -25,14 +25,15 @@ use toom::machine_cell::MachineCell;
 // One byte more than the longest round has, so that a longer one is seen to be too long.
 const INPUT_BYTES: usize = MAX_ROUND + 1;
 
-// Reads until the input ends or the buffer is full. Each read but the last gives a byte at least. By hand, since `read_to_end` allocates again
-// once its buffer is full, under `take` too, and `read_exact` fails if the input ends before that.
+// Reads until the input ends or the buffer is full. By hand, since `read_to_end` allocates again once its buffer is full, under `take` too, and
+// `read_exact` fails if the input ends before that.
 fn fill<R: Read>(source: &mut R, buffer: &mut [u8]) -> anyhow::Result<usize>
+    ensures front { IfOk result (λ n. IfSome (R.remaining source.old) (λ bytes. take n buffer.new ≡ take (length buffer.old) bytes)) }
     ensures within { IfOk result (λ n. n ≤ length buffer.new) }
     ensures long { length buffer.new ≡ length buffer.old }
 {
     let mut len = 0;
-    for _ in 0..buffer.len() {
+    while len < buffer.len() {
         let got = source.read(&mut buffer[len..])?;
         if got == 0 {
             break;
@@ -42,13 +43,15 @@ fn fill<R: Read>(source: &mut R, buffer: &mut [u8]) -> anyhow::Result<usize>
     Ok(len)
 }
 
-// The reply of one kind of cell.
+// The reply of one kind of cell, over cells that are all the one of the byte 00.
 fn reply_of<C: Kind + Clone, H: Entry<C>>(
     heap: Global,
     blank: C,
     file: &[u8],
     out: &mut [u8],
 ) -> anyhow::Result<usize>
+    requires blank { C.cell_of 0 ≡ Some blank }
+    requires clones { (cell : C) → C.is_clone blank cell → cell ≡ blank }
     ensures replied { IfOk result (λ n. Replied (members C.eq C.byte_of C.cell_of) (entrant H.kind H.questions H.is_in H.Host.meaning) file.now n out.old out.new) }
     ensures within { IfOk result (λ n. n ≤ length out.new) }
 {
@@ -56,9 +59,10 @@ fn reply_of<C: Kind + Clone, H: Entry<C>>(
     reply::<C, H>(&mut cells, file, out).map_err(|_| anyhow!("the output is too short"))
 }
 
-// The reply of the kind that the file says; the play of bits refuses a file of another number.
+// The reply of the kind that the file says; the play of bits refuses a file of another number. A file has one reply.
 fn answer(heap: Global, file: &[u8], out: &mut [u8]) -> anyhow::Result<usize>
     ensures answered { IfOk result (λ n. Answered file.now n out.old out.new) }
+    ensures pinned { OneReplyEach }
     ensures within { IfOk result (λ n. n ≤ length out.new) }
 {
     match kind(file) {
@@ -72,44 +76,35 @@ fn answer(heap: Global, file: &[u8], out: &mut [u8]) -> anyhow::Result<usize>
     }
 }
 
-// Plays the round of one source.
-fn play_from<R: Read>(
-    rt: &HostRuntime,
-    source: &mut R,
-    input: &mut [u8],
-    out: &mut [u8],
-) -> anyhow::Result<()> {
-    let len = fill(source, input)?;
-    let written = answer(rt.alloc(), &input[..len], out)?;
-    rt.stdout().write_all(&out[..written])?;
+// Plays the round of one source, and writes the reply.
+fn play_from<R: Read, W: Write>(heap: Global, source: &mut R, sink: &mut W) -> anyhow::Result<()>
+    ensures replies { OnOk result (IfSome (R.remaining source.old) (λ bytes. AppendsReply (take 65536 bytes) (W.contents sink.old) (W.contents sink.new))) }
+{
+    let mut input = vec![in heap; 0u8; INPUT_BYTES]?;
+    let mut out = vec![in heap; 0u8; REPORT_BYTES]?;
+    let len = fill(source, &mut input)?;
+    let written = answer(heap, &input[..len], &mut out)?;
+    sink.write_all(&out[..written])?;
     Ok(())
 }
 
 // Plays the round of the file of this name, or of standard input for the name `-`.
-fn play_named(
-    rt: &HostRuntime,
-    name: &str,
-    input: &mut [u8],
-    out: &mut [u8],
-) -> anyhow::Result<()> {
+fn play_named(rt: &HostRuntime, name: &str) -> anyhow::Result<()> {
     if name == "-" {
-        play_from(rt, &mut rt.stdin(), input, out)
+        play_from(rt.alloc(), &mut rt.stdin(), &mut rt.stdout())
     } else {
-        play_from(rt, &mut fs::open(rt, name)?, input, out)
+        play_from(rt.alloc(), &mut fs::open(rt, name)?, &mut rt.stdout())
     }
 }
 
 // With no file named, the round comes from standard input.
 fn run(rt: &HostRuntime) -> anyhow::Result<()> {
-    let heap = rt.alloc();
-    let mut input = vec![in heap; 0u8; INPUT_BYTES]?;
-    let mut out = vec![in heap; 0u8; REPORT_BYTES]?;
     let names = env::args(rt)?.skip(1);
     if names.len() == 0 {
-        return play_named(rt, "-", &mut input, &mut out);
+        return play_named(rt, "-");
     }
     for name in names {
-        play_named(rt, &name, &mut input, &mut out)?;
+        play_named(rt, &name)?;
     }
     Ok(())
 }

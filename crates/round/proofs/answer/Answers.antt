@@ -1,7 +1,9 @@
-use Rattle.std.proofs.Common.{refl}
+use Rattle.std.proofs.Common.{refl, ap, Some}
+use Rattle.toom.specs.MachineCells.{cells_equal}
 use Rattle.toom.specs.declared.bit.Bit.TheVariants.{Zero, One}
 use Rattle.rounds.specs.declared.file_kind.FileKind.TheVariants.{MachineCells}
 use Rattle.round.proofs.Answering.{answered_as, answered_as_bits}
+use Rattle.round.proofs.Pinning.{one_reply_each}
 use Rattle.round.proofs.answer.Goals as goal
 
 pub returns-in-MachineCells-clause-answered : goal.returns-in-MachineCells-clause-answered
@@ -14,3 +16,12 @@ returns-in-Bits-clause-answered c =
     answered_as_bits c.args.file.now c.reply_of-in-Bits.result c.args.out.now c.reply_of-in-Bits.new.out c.kind.result c.kind.ensures _
     (elim [ Zero ↦ elim [ Zero ↦ refl | One ↦ refl ] | One ↦ elim [ Zero ↦ refl | One ↦ refl ] ]) c.in-Bits.is
     c.reply_of-in-Bits.ensures.replied
+
+pub reply_of-requires-clause-blank : goal.reply_of-requires-clause-blank
+reply_of-requires-clause-blank c = ap Some (cells_equal _ _ refl refl)
+
+pub returns-in-MachineCells-clause-pinned : goal.returns-in-MachineCells-clause-pinned
+returns-in-MachineCells-clause-pinned c = one_reply_each
+
+pub returns-in-Bits-clause-pinned : goal.returns-in-Bits-clause-pinned
+returns-in-Bits-clause-pinned c = one_reply_each

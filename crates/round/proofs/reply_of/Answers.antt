@@ -1,4 +1,4 @@
-use Rattle.std.proofs.Common.{◌≤◌, length, arith}
+use Rattle.std.proofs.Common.{◌≤◌, length}
 use Rattle.plate.specs.Plates.{members}
 use Rattle.rounds.specs.PlayCall.{entrant}
 use Rattle.round.specs.Answer.{Replied}
@@ -15,6 +15,7 @@ returns g c =
     let kept = c.map_err.ensures in
     record {
       replied = ok_kept c.reply.result c.map_err.result (λ n. Replied k e file n out out') _ kept.cases kept.variant
-          (replied k e file c.reply.result _ _ out out' (omega (arith, c.in_ok-cells.ensures.len)) c.reply.ensures.outcome);
+          (replied k e file c.reply.result _ _ _ out out' c.args.blank c.requires.blank (c.in_ok-cells.ensures.items_if_clones_equal c.requires.clones)
+          c.deref_mut.ensures.value c.reply.ensures.outcome);
       within = ok_kept c.reply.result c.map_err.result (λ n. n ≤ length out') _ kept.cases kept.variant c.reply.ensures.within;
     }
