@@ -4,7 +4,7 @@ use Rattle.toom.specs.Bit.{bit_of_byte, byte_of_bit, equal_bits}
 use Rattle.toom.specs.MachineCell.{byte_of_machine_cell, equal_machine_cells, machine_cell_of_byte}
 use Rattle.hosts.specs.declared.elementary.Elementary.{Elementary}
 use Rattle.hosts.specs.Elementary.{wolfram}
-use Rattle.hosts.specs.MachineFile.{MachineIn, machine_refusal}
+use Rattle.hosts.specs.MachineFile.{MachineIn, machine_questions}
 use Rattle.hosts.specs.MachineRule.{machine_rule}
 use Rattle.plate.specs.Members.{Members}
 use Rattle.plate.specs.Plates.{members}
@@ -30,7 +30,7 @@ pub record ComparedAs {C H : Type 0} (k : Members C) (e : Entrant C H) (file kep
 -- A round of machine cells.
 abbrev pub MachineCompared : (file kept : List ℕ) → (agrees : Bool) → Type 0
 MachineCompared =
-    ComparedAs (members equal_machine_cells byte_of_machine_cell machine_cell_of_byte) (entrant MachineCells machine_refusal MachineIn machine_rule)
+    ComparedAs (members equal_machine_cells byte_of_machine_cell machine_cell_of_byte) (entrant MachineCells machine_questions MachineIn machine_rule)
 
 -- A round of bits.
 abbrev pub BitsCompared : (file kept : List ℕ) → (agrees : Bool) → Type 0

@@ -2,7 +2,7 @@
 use Rattle.std.proofs.Common.{◌≡◌, ℕ, List, replicate, take, Ok, Result, sym, ap, ◌∙◌, subst, rules}
 use Rattle.hosts.specs.declared.elementary.Elementary.{Elementary}
 use Rattle.hosts.specs.Elementary.{wolfram}
-use Rattle.hosts.specs.MachineFile.{MachineIn, machine_refusal}
+use Rattle.hosts.specs.MachineFile.{MachineIn, machine_questions}
 use Rattle.hosts.specs.MachineRule.{machine_rule}
 use Rattle.hosts.proofs.Machines.{one_machine_each}
 use Rattle.toom.specs.Bit.{bit_of_byte, byte_of_bit, equal_bits}
@@ -43,7 +43,7 @@ module _ (file : List ℕ) (n n' : ℕ) (out out₁ out₂ : List ℕ) where
 
   pub answers_pin : (kind : FileKind) → RepliedTo kind file n out out₁ → RepliedTo kind file n' out out₂ → (n ≡ n') × (out₁ ≡ out₂)
   answers_pin MachineCells =
-      one_reply (members equal_machine_cells byte_of_machine_cell machine_cell_of_byte) (entrant MachineCells machine_refusal MachineIn machine_rule)
+      one_reply (members equal_machine_cells byte_of_machine_cell machine_cell_of_byte) (entrant MachineCells machine_questions MachineIn machine_rule)
       one_machine_each
   answers_pin Bits = bits_pin
   answers_pin (Other number) = bits_pin

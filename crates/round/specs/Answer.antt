@@ -9,9 +9,11 @@ use Rattle.hosts.specs.MachineFile.{MachineIn, machine_questions}
 use Rattle.hosts.specs.MachineRule.{machine_rule}
 use Rattle.plate.specs.Members.{Members}
 use Rattle.plate.specs.Plates.{members}
+use Rattle.reports.specs.ReportCall.{report_bytes}
 use Rattle.rounds.specs.declared.file_kind.FileKind.{FileKind}
 use Rattle.rounds.specs.declared.file_kind.FileKind.TheVariants.{Bits, MachineCells, Other}
 use Rattle.rounds.specs.Hosts.{RuleIn, rule_questions}
+use Rattle.rounds.specs.Memory.{round_cells}
 use Rattle.rounds.specs.PlayCall.{Entrant, entrant}
 use Rattle.rounds.specs.ReplyCall.{Replies}
 use Rattle.rounds.specs.RoundFile.{kind_in}
@@ -21,7 +23,7 @@ pub record Replied {C H : Type 0} (k : Members C) (e : Entrant C H) (file : List
   pub blank : C
   pub cells' : List C
   pub named : k.named 0 ≡ Some blank
-  pub replies : Replies k e file (Ok n) (replicate 40960 blank) cells' out out'
+  pub replies : Replies k e file (Ok n) (replicate round_cells blank) cells' out out'
 
 -- Rounds of machine cells.
 abbrev pub MachineReplied : (file : List ℕ) → (n : ℕ) → (out out' : List ℕ) → Type 0
@@ -46,7 +48,7 @@ Answered file = RepliedTo (kind_in file) file
 pub record IsReply (file text : List ℕ) : Type 0 where
   pub n : ℕ
   pub out : List ℕ
-  pub answered : Answered file n (replicate 12396 0) out
+  pub answered : Answered file n (replicate report_bytes 0) out
   pub text_of : text ≡ take n out
 
 -- A file has one reply.
