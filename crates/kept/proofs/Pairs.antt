@@ -27,6 +27,7 @@ no_reply bytes file between first none pair later is =
     let same = one_string bytes file pair.file between (string pair.reply ++ later) first (file_first bytes pair later is) in
     none pair.reply later record { whole = same.1; short = is.keepable.reply }
 
+-- One pair at most stands at the front, and one list of bytes follows it.
 one_pair : (bytes : List ℕ) (p q : Pair) (x y : List ℕ) → PairFirst bytes p x → PairFirst bytes q y → (p ≡ q) × (x ≡ y)
 one_pair bytes p q x y one other =
     let files = one_string bytes p.file q.file _ _ (file_first bytes p x one) (file_first bytes q y other) in
@@ -34,17 +35,22 @@ one_pair bytes p q x y one other =
     let replies = one_string (string p.reply ++ x) p.reply q.reply x y (reply_second bytes p x one) second in
     (ap₂ (λ file reply. record { file = file; reply = reply }) files.0 replies.0, replies.1)
 
+-- The same of two lists of pairs, since a pair has bytes.
+one_list : (ps qs : List Pair) → flat_map pair_bytes ps ≡ flat_map pair_bytes qs → AllByRecursion IsKeepable ps → AllByRecursion IsKeepable qs
+    → ps ≡ qs
+one_list [] [] e a b = refl
+one_list [] (q ∷ qs) e a b = absurd (omega (arith, shorter [] q (flat_map pair_bytes qs) record { whole = e; keepable = b.0 }))
+one_list (p ∷ ps) [] e a b = absurd (omega (arith, shorter [] p (flat_map pair_bytes ps) record { whole = sym e; keepable = a.0 }))
+one_list (p ∷ ps) (q ∷ qs) e a b =
+    let left = flat_map pair_bytes ps in
+    let right = flat_map pair_bytes qs in
+    let first : PairFirst (pair_bytes p ++ left) p left = record { whole = refl; keepable = a.0 } in
+    let second : PairFirst (pair_bytes p ++ left) q right = record { whole = e; keepable = b.0 } in
+    let same = one_pair (pair_bytes p ++ left) p q left right first second in
+    ap₂ (λ x xs. x ∷ xs) same.0 (one_list ps qs same.1 a.1 b.1)
+
 pub pins : PairsPin
-pins bytes one other keeps keeps' = by one other (sym keeps.whole ∙ keeps'.whole) keeps.each keeps'.each
-  where
-    by : (ps qs : List Pair) → flat_map pair_bytes ps ≡ flat_map pair_bytes qs → AllByRecursion IsKeepable ps → AllByRecursion IsKeepable qs → ps ≡ qs
-    by [] [] e a b = refl
-    by [] (q ∷ qs) e a b = absurd (omega (arith, shorter [] q (flat_map pair_bytes qs) record { whole = e; keepable = b.0 }))
-    by (p ∷ ps) [] e a b = absurd (omega (arith, shorter [] p (flat_map pair_bytes ps) record { whole = sym e; keepable = a.0 }))
-    by (p ∷ ps) (q ∷ qs) e a b =
-        let left = flat_map pair_bytes ps in
-        let right = flat_map pair_bytes qs in
-        let first : PairFirst (pair_bytes p ++ left) p left = record { whole = refl; keepable = a.0 } in
-        let second : PairFirst (pair_bytes p ++ left) q right = record { whole = e; keepable = b.0 } in
-        let same = one_pair (pair_bytes p ++ left) p q left right first second in
-        ap₂ (λ x xs. x ∷ xs) same.0 (by ps qs same.1 a.1 b.1)
+pins = record {
+  front = one_pair;
+  whole = λ bytes ps qs keeps keeps'. one_list ps qs (sym keeps.whole ∙ keeps'.whole) keeps.each keeps'.each;
+}

@@ -1,5 +1,5 @@
 -- Whether the reply to a round is the one that is kept.
-use Rattle.std.specs.Prelude.{◌≡◌, ℕ, ◌↔◌, Bool, IsTrue, List, length, take, Ok}
+use Rattle.std.specs.Prelude.{◌≡◌, ℕ, ◌≤◌, ◌↔◌, Bool, IsTrue, List, length, take, Ok}
 use Rattle.toom.specs.Bit.{bit_of_byte, byte_of_bit, equal_bits}
 use Rattle.toom.specs.MachineCell.{byte_of_machine_cell, equal_machine_cells, machine_cell_of_byte}
 use Rattle.hosts.specs.declared.elementary.Elementary.{Elementary}
@@ -22,8 +22,8 @@ pub record ComparedAs {C H : Type 0} (k : Members C) (e : Entrant C H) (file kep
   pub out : List ℕ
   pub out' : List ℕ
   pub n : ℕ
-  pub enough : length cells ≡ 40960
-  pub room : length out ≡ 12396
+  pub enough : 40960 ≤ length cells
+  pub room : 12396 ≤ length out
   pub replies : Replies k e file (Ok n) cells cells' out out'
   pub says : IsTrue agrees ↔ (take n out' ≡ kept)
 

@@ -32,10 +32,6 @@ pub record Keeps (bytes : List ℕ) (pairs : List Pair) : Type 0 where
   pub whole : bytes ≡ flat_map pair_bytes pairs
   pub each : AllByRecursion IsKeepable pairs
 
--- Bytes are one list of pairs at most.
-abbrev pub PairsPin : Type 0
-PairsPin = (bytes : List ℕ) (one other : List Pair) → Keeps bytes one → Keeps bytes other → one ≡ other
-
 -- A byte string stands at the front of the bytes, and the later ones follow it.
 pub record StringFirst (bytes first later : List ℕ) : Type 0 where
   pub whole : bytes ≡ string first ++ later
@@ -50,6 +46,12 @@ StringCut bytes r =
 pub record PairFirst (bytes : List ℕ) (pair : Pair) (later : List ℕ) : Type 0 where
   pub whole : bytes ≡ pair_bytes pair ++ later
   pub keepable : IsKeepable pair
+
+-- At most one pair stands at the front of bytes, and at most one list of pairs is all of them.
+pub record PairsPin : Type 0 where
+  pub front : (bytes : List ℕ) (one other : Pair) (later later' : List ℕ) → PairFirst bytes one later → PairFirst bytes other later'
+      → (one ≡ other) × (later ≡ later')
+  pub whole : (bytes : List ℕ) (one other : List Pair) → Keeps bytes one → Keeps bytes other → one ≡ other
 
 -- No pair stands at the front.
 abbrev pub NoPairFirst : List ℕ → Type 0

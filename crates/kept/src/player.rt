@@ -1,5 +1,5 @@
 // The player of kept rounds, each in the cells and the output that the one before has left.
-ghost use Rattle.std.specs.Prelude.{◌≡◌, length};
+ghost use Rattle.std.specs.Prelude.{◌≤◌, length};
 ghost use Rattle.plate.specs.Plates.{members};
 ghost use Rattle.rounds.specs.PlayCall.{entrant};
 ghost use Rattle.kept.specs.Agreement.{Compared, ComparedAs};
@@ -23,15 +23,15 @@ pub struct Player {
     bits: Vec<Bit>,
     machine_cells: Vec<MachineCell>,
     output: Vec<u8>,
-    ghost bits_suffice: { length bits.items ≡ 40960 },
-    ghost machine_cells_suffice: { length machine_cells.items ≡ 40960 },
-    ghost output_suffices: { length output.items ≡ 12396 },
+    ghost bits_suffice: { 40960 ≤ length bits.items },
+    ghost machine_cells_suffice: { 40960 ≤ length machine_cells.items },
+    ghost output_suffices: { 12396 ≤ length output.items },
 }
 
 // Whether the reply of this kind of cell is the one that is kept.
 fn agrees<C: Kind, H: Entry<C>>(memory: &mut [C], output: &mut [u8], round: &KeptRound) -> bool
-    requires enough { length memory.old ≡ 40960 }
-    requires room { length output.old ≡ 12396 }
+    requires enough { 40960 ≤ length memory.old }
+    requires room { 12396 ≤ length output.old }
     ensures { ComparedAs (members C.eq C.byte_of C.cell_of) (entrant H.kind H.questions H.is_in H.Host.meaning) round.now.file.now round.now.reply.now result }
 {
     let len = reply::<C, H>(memory, round.file, output).unwrap();
