@@ -8,9 +8,11 @@ use Rattle.hosts.specs.MachineFile.{MachineIn, machine_questions}
 use Rattle.hosts.specs.MachineRule.{machine_rule}
 use Rattle.plate.specs.Members.{Members}
 use Rattle.plate.specs.Plates.{members}
+use Rattle.reports.specs.ReportCall.{report_bytes}
 use Rattle.rounds.specs.declared.file_kind.FileKind.{FileKind}
 use Rattle.rounds.specs.declared.file_kind.FileKind.TheVariants.{Bits, MachineCells, Other}
 use Rattle.rounds.specs.Hosts.{RuleIn, rule_questions}
+use Rattle.rounds.specs.Memory.{round_cells}
 use Rattle.rounds.specs.PlayCall.{Entrant, entrant}
 use Rattle.rounds.specs.ReplyCall.{Replies}
 use Rattle.rounds.specs.RoundFile.{kind_in}
@@ -22,8 +24,8 @@ pub record ComparedAs {C H : Type 0} (k : Members C) (e : Entrant C H) (file kep
   pub out : List ℕ
   pub out' : List ℕ
   pub n : ℕ
-  pub enough : 40960 ≤ length cells
-  pub room : 12396 ≤ length out
+  pub enough : round_cells ≤ length cells
+  pub room : report_bytes ≤ length out
   pub replies : Replies k e file (Ok n) cells cells' out out'
   pub says : IsTrue agrees ↔ (take n out' ≡ kept)
 

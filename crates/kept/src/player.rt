@@ -1,6 +1,8 @@
 // The player of kept rounds, each in the cells and the output that the one before has left.
 ghost use Rattle.std.specs.Prelude.{◌≤◌, length};
 ghost use Rattle.plate.specs.Plates.{members};
+ghost use Rattle.reports.specs.ReportCall.{report_bytes};
+ghost use Rattle.rounds.specs.Memory.{round_cells};
 ghost use Rattle.rounds.specs.PlayCall.{entrant};
 ghost use Rattle.kept.specs.Agreement.{Compared, ComparedAs};
 
@@ -23,15 +25,15 @@ pub struct Player {
     bits: Vec<Bit>,
     machine_cells: Vec<MachineCell>,
     output: Vec<u8>,
-    ghost bits_suffice: { 40960 ≤ length bits.items },
-    ghost machine_cells_suffice: { 40960 ≤ length machine_cells.items },
-    ghost output_suffices: { 12396 ≤ length output.items },
+    ghost bits_suffice: { round_cells ≤ length bits.items },
+    ghost machine_cells_suffice: { round_cells ≤ length machine_cells.items },
+    ghost output_suffices: { report_bytes ≤ length output.items },
 }
 
 // Whether the reply of this kind of cell is the one that is kept.
 fn agrees<C: Kind, H: Entry<C>>(memory: &mut [C], output: &mut [u8], round: &KeptRound) -> bool
-    requires enough { 40960 ≤ length memory.old }
-    requires room { 12396 ≤ length output.old }
+    requires enough { round_cells ≤ length memory.old }
+    requires room { report_bytes ≤ length output.old }
     ensures { ComparedAs (members C.eq C.byte_of C.cell_of) (entrant H.kind H.questions H.is_in H.Host.meaning) round.now.file.now round.now.reply.now result }
 {
     let len = reply::<C, H>(memory, round.file, output).unwrap();

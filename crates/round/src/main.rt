@@ -2,9 +2,10 @@
 // `within` holds an answer against the output, so no type of either could say it.
 #![tactic(auto)]
 
-ghost use Rattle.std.specs.Prelude.{◌≡◌, ◌≤◌, length, take, Some, IfOk, IfSome, OnOk};
+ghost use Rattle.std.specs.Prelude.{◌≡◌, ◌+◌, ◌≤◌, length, take, Some, IfOk, IfSome, OnOk};
 ghost use Rattle.plate.specs.Plates.{members};
 ghost use Rattle.rounds.specs.PlayCall.{entrant};
+ghost use Rattle.rounds.specs.RoundFile.{max_round};
 ghost use Rattle.round.specs.Answer.{Answered, AppendsReply, OneReplyEach, Replied};
 
 use anyhow::anyhow;
@@ -78,7 +79,7 @@ fn answer(heap: Global, file: &[u8], out: &mut [u8]) -> anyhow::Result<usize>
 
 // Plays the round of one source, and writes the reply.
 fn play_from<R: Read, W: Write>(heap: Global, source: &mut R, sink: &mut W) -> anyhow::Result<()>
-    ensures replies { OnOk result (IfSome (R.remaining source.old) (λ bytes. AppendsReply (take 65536 bytes) (W.contents sink.old) (W.contents sink.new))) }
+    ensures replies { OnOk result (IfSome (R.remaining source.old) (λ bytes. AppendsReply (take (max_round + 1) bytes) (W.contents sink.old) (W.contents sink.new))) }
 {
     let mut input = vec![in heap; 0u8; INPUT_BYTES]?;
     let mut out = vec![in heap; 0u8; REPORT_BYTES]?;
