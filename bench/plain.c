@@ -3,8 +3,8 @@
  *     gcc -O3 -march=x86-64-v2 -o plain bench/plain.c
  *     ./plain FILE        plays the round in FILE, or on standard input if no file is named, and prints its report
  *
- * It plays rounds that are in order. It asks none of the questions of docs/REFUSALS.md: a file that is not in order ends the
- * program with a message, or gives no meaning. A cell is its byte, also a bit and a place of the shadow; planes lie one after
+ * It plays rounds that are in order. It checks header, kind, length and number of copies alone: any other file that is not in
+ * order may make it do anything. A cell is its byte, also a bit and a place of the shadow; planes lie one after
  * another; there are no bounds checks. The long loops have no wrap and no branch, so that the compiler can do several cells at
  * once: all planes are voted in one sweep, and then the last columns and rows again, where north or east is at the other end;
  * and all planes of the ring but the first and the last step in one sweep.
