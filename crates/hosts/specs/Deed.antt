@@ -9,6 +9,7 @@ use Rattle.hosts.specs.Digit.{Digit}
 use Rattle.hosts.specs.Sent.{sent, staying, writing}
 use Rattle.hosts.specs.Table.{slot}
 
+-- What a cell with this head, symbol and entry does.
 abbrev pub deed_of : (head symbol : Digit) → Option Entry → Deed
 deed_of head symbol e = record {
   symbol = (writing symbol e).value;
@@ -21,6 +22,7 @@ deed_of head symbol e = record {
   right_fits = (sent Right e).fits;
 }
 
+-- The lowest hexadecimal digit of a number.
 abbrev pub low_digit : ℕ → Digit
 low_digit n = record { value = n % 16; fits = mod-lt n (lit< tt) }
 
@@ -28,6 +30,7 @@ low_digit n = record { value = n % 16; fits = mod-lt n (lit< tt) }
 abbrev pub deed_at : List (Option Entry) → ℕ → Deed
 deed_at table i = deed_of (low_digit (i / 16)) (low_digit i) (slot table i)
 
+-- Slot i of the second table has the deed of slot i of the first.
 abbrev pub Done : List (Option Entry) → List Deed → ℕ → Type 0
 Done table deeds i = slice_index_or deeds i (deed_at table i) ≡ deed_at table i
 

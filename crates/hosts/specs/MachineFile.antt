@@ -41,10 +41,10 @@ entry_in file k = record {
   symbol_fits = mod-lt (high_byte file k) (lit< tt);
 }
 
--- The questions, with their numbers.
 abbrev pub host_refusal : (number place : ℕ) → Refusal
 host_refusal number place = record { number = number; word = codes "host"; place = place }
 
+-- The questions about entry k.
 abbrev pub entry_questions : List ℕ → ℕ → Option Refusal
 entry_questions file k =
     ask (nat_le 1 (high_byte file k / 16) && nat_le (high_byte file k / 16) (states_in file)) (host_refusal 19 k)
@@ -52,11 +52,13 @@ entry_questions file k =
     (ask (nat_lt (low_byte file k / 64) 3) (host_refusal 21 k)
     (ask (low_byte file k % 64 == 0) (host_refusal 22 k) None)))
 
+-- The questions about the first byte and the length.
 abbrev pub header_questions : List ℕ → Option Refusal
 header_questions file =
     ask (nat_lt 0 (length file) && (nat_le 1 (states_in file) && nat_le 2 (symbols_in file))) (host_refusal 17 0)
     (ask (length file == 1 + 2 * (states_in file * symbols_in file)) (host_refusal 18 0) None)
 
+-- All questions of a file, in order.
 abbrev pub machine_questions : List ℕ → Option Refusal
 machine_questions file = option_or (header_questions file) (ask_each (entry_questions file) (states_in file * symbols_in file))
 

@@ -10,10 +10,12 @@ use Rattle.toom.specs.MachineCell.{byte_of_machine_cell, equal_machine_cells, ma
 use Rattle.plate.specs.Members.{Members}
 use Rattle.plate.specs.Plates.{members}
 use Rattle.plate.proofs.Standing.{some_same}
+use Rattle.reports.specs.ReportCall.{report_bytes}
 use Rattle.rounds.specs.declared.fault.RefusedFault.{RefusedFault}
 use Rattle.rounds.specs.declared.file_kind.FileKind.{FileKind}
 use Rattle.rounds.specs.declared.file_kind.FileKind.TheVariants.{Bits, MachineCells, Other}
 use Rattle.rounds.specs.Hosts.{RuleIn, rule_questions}
+use Rattle.rounds.specs.Memory.{round_cells}
 use Rattle.rounds.specs.PlayCall.{Entrant, entrant}
 use Rattle.rounds.specs.ReplyCall.{Replies}
 use Rattle.rounds.specs.RoundFile.{kind_in}
@@ -30,8 +32,8 @@ module _ (file : List ℕ) (n n' : ℕ) (out out₁ out₂ : List ℕ) where
   one_reply k e once x y =
       let blank : x.blank ≡ y.blank = some_same x.blank y.blank (sym x.named ∙ y.named) in
       let same =
-      reply_pins k e once file (replicate 40960 y.blank) x.cells' y.cells' out out₁ out₂ (Ok n) (Ok n')
-      (subst (λ b. Replies k e file (Ok n) (replicate 40960 b) x.cells' out out₁) blank x.replies) y.replies in
+      reply_pins k e once file (replicate round_cells y.blank) x.cells' y.cells' out out₁ out₂ (Ok n) (Ok n')
+      (subst (λ b. Replies k e file (Ok n) (replicate round_cells b) x.cells' out out₁) blank x.replies) y.replies in
       (oks_same n n' same.0, same.2)
 
   one_rule : (bytes : List ℕ) (x y : Elementary) → RuleIn bytes x → RuleIn bytes y → x ≡ y
@@ -50,5 +52,5 @@ module _ (file : List ℕ) (n n' : ℕ) (out out₁ out₂ : List ℕ) where
 
 pub one_reply_each : OneReplyEach
 one_reply_each file text other x y =
-    let same = answers_pin file x.n y.n (replicate 12396 0) x.out y.out (kind_in file) x.answered y.answered in
+    let same = answers_pin file x.n y.n (replicate report_bytes 0) x.out y.out (kind_in file) x.answered y.answered in
     x.text_of ∙ ap (λ m. take m x.out) same.0 ∙ ap (take y.n) same.1 ∙ sym y.text_of

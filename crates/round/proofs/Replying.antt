@@ -2,6 +2,7 @@
 use Rattle.std.proofs.Common.{◌≡◌, ℕ, List, replicate, IfOk, Some, Ok, Err, Result, MatchResult, is_ok, sym, ◌∙◌, subst}
 use Rattle.plate.specs.Members.{Members}
 use Rattle.rounds.specs.declared.fault.RefusedFault.{RefusedFault}
+use Rattle.rounds.specs.Memory.{round_cells}
 use Rattle.rounds.specs.PlayCall.{Entrant}
 use Rattle.rounds.specs.ReplyCall.{Replies}
 use Rattle.round.specs.Answer.{Replied}
@@ -14,7 +15,7 @@ ok_kept (Err d) (Ok x) P Q cases variant holds = cc
 ok_kept (Err d) (Err e) P Q cases variant holds = tt
 
 pub replied : {C H : Type 0} (k : Members C) (e : Entrant C H) (file : List ℕ) (r : Result ℕ RefusedFault) (made cells cells' : List C) (out out' : List ℕ)
-    (blank : C) → k.named 0 ≡ Some blank → made ≡ replicate 40960 blank → cells ≡ made → Replies k e file r cells cells' out out'
+    (blank : C) → k.named 0 ≡ Some blank → made ≡ replicate round_cells blank → cells ≡ made → Replies k e file r cells cells' out out'
     → IfOk r (λ n. Replied k e file n out out')
 replied k e file (Ok n) made cells cells' out out' blank named all same replies = record {
   blank = blank;

@@ -3,6 +3,7 @@ ghost use Rattle.std.specs.Prelude.{◌≡◌, ◌≤◌, length, Some, None, Ma
 ghost use Rattle.plate.specs.LayCall.{lay_questions};
 ghost use Rattle.plate.specs.Plates.{members};
 ghost use Rattle.runs.specs.RunCall.{shape_questions};
+ghost use Rattle.reports.specs.ReportCall.{report_bytes};
 ghost use Rattle.rounds.specs.PlayCall.{Performs, PlayAnswers, PlayHeals, entrant, play_fault, play_questions};
 ghost use Rattle.rounds.specs.RoundFile.{RoundIn, host_in};
 
@@ -44,7 +45,7 @@ fn perform<C: Kind, H: Entry<C>>(
 ) -> Result<usize, PlayFault>
     requires lays { lay_questions C.cell_of round.planes round.side round.tape.now (length memory.old) ≡ None }
     requires runs { shape_questions C.cell_of round.planes round.side 0 round.beats round.script.now ≡ None }
-    requires room { 12396 ≤ length out.old }
+    requires room { report_bytes ≤ length out.old }
     ensures { MatchResult result (λ n. Performs (members C.eq C.byte_of C.cell_of) (H.Host.meaning host.now) round.entry.planes round.entry.side round.entry.beats round.entry.tape.now round.entry.script.now n memory.old memory.new out.old out.new) (λ _. ⊥) }
 {
     let mut plate = Plate::new(memory);

@@ -2,7 +2,7 @@
 use Rattle.std.specs.Prelude.{◌≡◌, ℕ, ◌+◌, Bool, false, cond, ◌&&◌, ◌||◌, List, [], ◌∷◌, Some, None, Option, Result, MatchResult, ◌==◌, nat_le, nat_lt}
 use Rattle.toom.specs.declared.shadow.Shadow.{Shadow}
 use Rattle.toom.specs.Shadow.{IsShadow}
-use Rattle.toom.specs.Torus.{Plane}
+use Rattle.toom.specs.Torus.{Plane, max_side, min_side}
 use Rattle.thin.specs.declared.input.Cause.{Cause}
 use Rattle.thin.specs.declared.input.Cause.TheVariants.{NoSide, WordCount, NoNumber, SideRange, OffTorus}
 use Rattle.thin.specs.declared.input.InputFault.{InputFault}
@@ -12,7 +12,7 @@ use Rattle.thin.specs.Words.{lines, words, numeral, value}
 abbrev pub side_fault : List (List ℕ) → Option Cause
 side_fault [] = Some NoSide
 side_fault (side ∷ []) =
-    cond (numeral side) (cond (nat_le 2 (value side) && nat_le (value side) 64) None (Some SideRange)) (Some NoNumber)
+    cond (numeral side) (cond (nat_le min_side (value side) && nat_le (value side) max_side) None (Some SideRange)) (Some NoNumber)
 side_fault (side ∷ word ∷ more) = Some WordCount
 
 -- The side that the words say, where nothing is wrong with them.
