@@ -20,10 +20,14 @@ fn a_bit_has_the_bytes_00_and_01(rt: HostRuntime) {
 fn every_byte_names_a_machine_cell(rt: HostRuntime) -> Result<(), Fail> {
     for byte in 0..=255u8 {
         let cell = MachineCell::from_byte(byte).ok_or(Unbuilt)?;
-        assert_eq!(rt; cell.head, byte / 16);
-        assert_eq!(rt; cell.symbol, byte % 16);
+        assert_eq!(rt; cell.head(), byte / 16);
+        assert_eq!(rt; cell.symbol(), byte % 16);
         assert_eq!(rt; cell.byte(), byte);
+        assert_eq!(rt; MachineCell::from(byte), cell);
+        assert_eq!(rt; MachineCell::new(byte / 16, byte % 16), Some(cell));
     }
+    assert_eq!(rt; MachineCell::new(16, 0), None);
+    assert_eq!(rt; MachineCell::new(0, 16), None);
     Ok(())
 }
 

@@ -5,8 +5,9 @@ use Rattle.std.proofs.Props.{props}
 use Rattle.std.proofs.lemmas.List.{get_or_past, get_or-set_other, length-set, get_or_default}
 use Rattle.std.proofs.lemmas.Grind.{get_or-set_at}
 use Rattle.std.proofs.lemmas.Bool.{cases_lt, cases_eq, cond_both, ne_eqb}
-use Rattle.std.specs.Option.{option_or}
+use Rattle.std.specs.Option.{option_or, unwrap_or}
 use Rattle.toom.specs.declared.machine_cell.MachineCell.{MachineCell}
+use Rattle.toom.specs.MachineCell.{head_of_cell, symbol_of_cell}
 use Rattle.toom.specs.MachineCells.{cells_equal}
 use Rattle.hosts.specs.declared.entry.Entry.{Entry}
 use Rattle.hosts.specs.declared.entry.Motion.{Motion}
@@ -83,47 +84,40 @@ module _ (c : MachineCell) (el er : Option Entry) (some_left : Enters el) (e : E
       cond (not t && not b) c
       (cell (new_head (arriving el (cond b (Some e) None) er)) (new_symbol c (cond b (Some e) None)))
 
-  heads : (t b : Bool) → (c.head == 0) ≡ t → Enters (cond b (Some e) None)
-      → first_of (staying (head_of c) (cond b (Some e) None)).value (sent Right el).value (sent Left er).value ≡ (rule t b).head
-  heads true true is some = or_else Stay (Some e) (option_or (moving Right el) (moving Left er)) _ some arrives
-  heads false true is some = or_else Stay (Some e) (option_or (moving Right el) (moving Left er)) _ some arrives
-  heads true false is some = rw is arrives
-  heads false false is some = rw is refl
-
-  symbols : (t b : Bool) → (writing (symbol_of c) (cond b (Some e) None)).value ≡ (rule t b).symbol
-  symbols true true = refl
-  symbols false true = refl
-  symbols true false = refl
-  symbols false false = refl
+  -- The byte of the rule's cell, by deeds.
+  bytes : (t b : Bool) → (head_of_cell c == 0) ≡ t → Enters (cond b (Some e) None)
+      → 16 * first_of (staying (head_of c) (cond b (Some e) None)).value (sent Right el).value (sent Left er).value
+      + (writing (symbol_of c) (cond b (Some e) None)).value
+      ≡ (rule t b).byte
+  bytes true true is some =
+      ap (λ h. 16 * h + e.symbol) (or_else Stay (Some e) (option_or (moving Right el) (moving Left er)) _ some arrives)
+  bytes false true is some =
+      ap (λ h. 16 * h + e.symbol) (or_else Stay (Some e) (option_or (moving Right el) (moving Left er)) _ some arrives)
+  bytes true false is some = rw is (ap (λ h. 16 * h + symbol_of_cell c) arrives)
+  bytes false false is some = rw is (omega arith)
 
 module _ (m : Machine) (x : MachineCell) where
-  abbrev at : ℕ
-  at = 16 * x.head + x.symbol
+  -- A cell's slot is its byte.
+  slot_of : entry_at m (head_of_cell x) (symbol_of_cell x) ≡ unwrap_or (slot m.table x.byte) blank
+  slot_of = let same : 16 * head_of_cell x + symbol_of_cell x ≡ x.byte = omega arith in ap (λ k. unwrap_or (slot m.table k) blank) same
 
-  row : at / 16 ≡ x.head
-  row = let fits = x.symbol_fits in omega arith
-
-  column : at % 16 ≡ x.symbol
-  column = let fits = x.symbol_fits in omega arith
-
-  slot_entry : slot m.table at ≡ entry_of m x
+  slot_entry : slot m.table x.byte ≡ entry_of m x
   slot_entry =
-      cond_both (live m x) (Some (entry_at m x.head x.symbol)) None (λ o. slot m.table at ≡ o)
-      (λ h. some_is _ blank _ (m.used at (rw (row, column) h)).0 refl) (λ h. none_is _ (m.unused at (rw (row, column) h)))
+      cond_both (live m x) (Some (entry_at m (head_of_cell x) (symbol_of_cell x))) None (λ o. slot m.table x.byte ≡ o)
+      (λ h. some_is _ blank _ (m.used x.byte h).0 (sym slot_of)) (λ h. none_is _ (m.unused x.byte h))
 
-  pub deed_is : deed_at m.table at ≡ deed_of (head_of x) (symbol_of x) (entry_of m x)
+  pub deed_is : deed_at m.table x.byte ≡ deed_of (head_of x) (symbol_of x) (entry_of m x)
   deed_is =
-      let heads : low_digit (at / 16) ≡ head_of x =
-      digits_equal _ _ (let r = row in let fits = x.head_fits in omega arith) in
-      let symbols : low_digit at ≡ symbol_of x = digits_equal _ _ column in
-      λ i. deed_of (heads i) (symbols i) (slot_entry i)
+      let heads : low_digit (x.byte / 16) ≡ head_of x = digits_equal _ _ (omega arith) in
+      λ i. deed_of (heads i) (symbol_of x) (slot_entry i)
 
-  pub looked_up : (d : Deed) → at < length m.deeds → get_or m.deeds at d ≡ deed_of (head_of x) (symbol_of x) (entry_of m x)
-  looked_up d within = get_or_default m.deeds at d (deed_at m.table at) within ∙ m.done at ∙ deed_is
+  pub looked_up : (d : Deed) → x.byte < length m.deeds → get_or m.deeds x.byte d ≡ deed_of (head_of x) (symbol_of x) (entry_of m x)
+  looked_up d within = get_or_default m.deeds x.byte d (deed_at m.table x.byte) within ∙ m.done x.byte ∙ deed_is
 
   enters : Enters (entry_of m x)
   enters =
-      cond_both (live m x) (Some (entry_at m x.head x.symbol)) None Enters (λ h. (m.used at (rw (row, column) h)).1.0) (λ _. omega arith)
+      cond_both (live m x) (Some (entry_at m (head_of_cell x) (symbol_of_cell x))) None Enters
+      (λ h. let enters = (m.used x.byte h).1.0 in rw slot_of enters) (λ _. omega arith)
 
 module _ (m : Machine) (l c r : MachineCell) where
   abbrev by_deeds : MachineCell → Deed
@@ -131,11 +125,10 @@ module _ (m : Machine) (l c r : MachineCell) where
 
   -- A step by deeds is the machine's rule.
   pub rule_by_deeds : (own left right : Deed) (x : MachineCell) → own ≡ by_deeds c → left ≡ by_deeds l → right ≡ by_deeds r
-      → x.head ≡ first_of own.stays left.goes_right right.goes_left → x.symbol ≡ own.symbol → x ≡ machine_rule m l c r
-  rule_by_deeds own left right x p q s h w =
-      let e = entry_at m c.head c.symbol in
-      let t = c.head == 0 in
+      → x.byte ≡ 16 * first_of own.stays left.goes_right right.goes_left + own.symbol → x ≡ machine_rule m l c r
+  rule_by_deeds own left right x p q s is =
+      let e = entry_at m (head_of_cell c) (symbol_of_cell c) in
+      let t = head_of_cell c == 0 in
       cells_equal x (machine_rule m l c r)
-      (h ∙ (λ i. first_of (p i).stays (q i).goes_right (s i).goes_left)
-      ∙ heads c (entry_of m l) (entry_of m r) (enters m l) e t (live m c) refl (enters m c))
-      (w ∙ ap (λ d. d.symbol) p ∙ symbols c (entry_of m l) (entry_of m r) (enters m l) e t (live m c))
+      (is ∙ (λ i. 16 * first_of (p i).stays (q i).goes_right (s i).goes_left + (p i).symbol)
+      ∙ bytes c (entry_of m l) (entry_of m r) (enters m l) e t (live m c) refl (enters m c))

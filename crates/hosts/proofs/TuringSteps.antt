@@ -3,6 +3,7 @@ use Rattle.std.proofs.Common.{◌≡◌, ℕ, ◌<◌, Bool, true, false, cond, 
 use Rattle.std.proofs.lemmas.Bool.{cases_eq, eq-eqb, ne_eqb, and_right, not_from_true, cond_both}
 use Rattle.std.specs.Option.{option_or}
 use Rattle.toom.specs.declared.machine_cell.MachineCell.{MachineCell}
+use Rattle.toom.specs.MachineCell.{head_of_cell, symbol_of_cell}
 use Rattle.hosts.specs.declared.entry.Entry.{Entry}
 use Rattle.hosts.specs.declared.entry.Motion.{Motion}
 use Rattle.hosts.specs.declared.entry.Motion.TheVariants.{Stay, Left, Right}
@@ -56,10 +57,10 @@ module _ (n i p : ℕ) (i< : i < n) (p< : p < n) (e : Entry) where
   arrives = rw (moving_when Stay e, moving_when Right e, moving_when Left e) (one_way e.motion)
 
 module _ (m : Machine) (n p : ℕ) (cells : ℕ → MachineCell) (p< : p < n) (alive : live m (cells p) ≡ true)
-    (alone : (i : ℕ) → i < n → (i ≡ p → ⊥) → (cells i).head ≡ 0) where
+    (alone : (i : ℕ) → i < n → (i ≡ p → ⊥) → head_of_cell (cells i) ≡ 0) where
   -- What the live head does.
   abbrev e : Entry
-  e = entry_at m (cells p).head (cells p).symbol
+  e = entry_at m (head_of_cell (cells p)) (symbol_of_cell (cells p))
 
   entry_is : (i : ℕ) → i < n → entry_of m (cells i) ≡ entries e p i
   entry_is i i< =

@@ -1,7 +1,9 @@
 -- A digit: a number from 0 to 15, as a machine cell has for its head and for its symbol.
-use Rattle.std.proofs.Common.{lit<}
-use Rattle.std.specs.Prelude.{ℕ, ◌<◌}
+use Rattle.std.proofs.Common.{lit<, arith}
+use Rattle.std.proofs.Math.Nat.{mod-lt}
+use Rattle.std.specs.Prelude.{ℕ, ◌+◌, ◌*◌, ◌<◌}
 use Rattle.toom.specs.declared.machine_cell.MachineCell.{MachineCell}
+use Rattle.toom.specs.MachineCell.{head_of_cell, symbol_of_cell}
 use Rattle.hosts.specs.declared.entry.Entry.{Entry}
 
 pub record Digit : Type 0 where
@@ -13,14 +15,13 @@ zero_digit = record { value = 0; fits = lit< tt }
 
 -- The machine cell of a head and a symbol, and back.
 abbrev pub cell : (head symbol : Digit) → MachineCell
-cell head symbol =
-    record { head = head.value; symbol = symbol.value; head_fits = head.fits; symbol_fits = symbol.fits }
+cell head symbol = record { byte = 16 * head.value + symbol.value; fits = omega arith }
 
 abbrev pub head_of : MachineCell → Digit
-head_of x = record { value = x.head; fits = x.head_fits }
+head_of x = record { value = head_of_cell x; fits = omega arith }
 
 abbrev pub symbol_of : MachineCell → Digit
-symbol_of x = record { value = x.symbol; fits = x.symbol_fits }
+symbol_of x = record { value = symbol_of_cell x; fits = mod-lt x.byte (lit< tt) }
 
 -- What an entry enters, and what it writes.
 abbrev pub entered : Entry → Digit

@@ -2,6 +2,7 @@
 use Rattle.std.specs.Prelude.{ℕ, ◌+◌, ◌*◌, Bool, cond, not, ◌&&◌, Some, None, Option, ◌==◌}
 use Rattle.std.specs.Option.{option_or, unwrap_or}
 use Rattle.toom.specs.declared.machine_cell.MachineCell.{MachineCell}
+use Rattle.toom.specs.MachineCell.{head_of_cell, symbol_of_cell}
 use Rattle.hosts.specs.declared.entry.Entry.{Entry}
 use Rattle.hosts.specs.declared.entry.Motion.{Motion}
 use Rattle.hosts.specs.declared.entry.Motion.TheVariants.{Stay, Left, Right}
@@ -15,15 +16,15 @@ entry_at m state symbol = unwrap_or (slot m.table (16 * state + symbol)) blank
 
 -- A cell is live if its head is a state of the machine and its symbol one of the machine's symbols.
 abbrev pub live : Machine → MachineCell → Bool
-live m x = has_entry m.states m.symbols x.head x.symbol
+live m x = has_entry m.states m.symbols (head_of_cell x) (symbol_of_cell x)
 
 -- A cell is foreign if it has a head and isn't live.
 abbrev pub foreign : Machine → MachineCell → Bool
-foreign m x = not (x.head == 0) && not (live m x)
+foreign m x = not (head_of_cell x == 0) && not (live m x)
 
 -- The entry of a live cell, none of another.
 abbrev pub entry_of : Machine → MachineCell → Option Entry
-entry_of m x = cond (live m x) (Some (entry_at m x.head x.symbol)) None
+entry_of m x = cond (live m x) (Some (entry_at m (head_of_cell x) (symbol_of_cell x))) None
 
 -- The entry, if it moves the head so.
 abbrev pub moving : Motion → Option Entry → Option Entry

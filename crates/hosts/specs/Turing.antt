@@ -1,6 +1,7 @@
 -- A Turing machine in the textbook sense, on a ring: a configuration is a tape, the place of the head and a state.
 use Rattle.std.specs.Prelude.{◌≡◌, ℕ, ◌<◌, true, cond, ◌==◌, ◌≢◌}
 use Rattle.toom.specs.declared.machine_cell.MachineCell.{MachineCell}
+use Rattle.toom.specs.MachineCell.{head_of_cell}
 use Rattle.hosts.specs.declared.entry.Motion.{Motion}
 use Rattle.hosts.specs.declared.entry.Motion.TheVariants.{Stay, Left, Right}
 use Rattle.hosts.specs.declared.machine.Machine.{Machine}
@@ -43,5 +44,5 @@ configuration cells p = record { tape = λ i. symbol_of (cells i); place = p; st
 abbrev pub StepsAsTuring : Type 0
 StepsAsTuring =
     (m : Machine) (n p : ℕ) (cells : ℕ → MachineCell) → p < n → live m (cells p) ≡ true
-    → ((i : ℕ) → i < n → (i ≢ p) → (cells i).head ≡ 0)
+    → ((i : ℕ) → i < n → (i ≢ p) → head_of_cell (cells i) ≡ 0)
     → (i : ℕ) → i < n → stepped (machine_rule m) n cells i ≡ ring_of (turing_step m n (configuration cells p)) i

@@ -44,7 +44,7 @@ impl Player {
     pub fn new(heap: Global) -> Result<Player, AllocError> {
         Ok(Player {
             bits: vec![in heap; Bit::Zero; ROUND_CELLS]?,
-            machine_cells: vec![in heap; MachineCell { head: 0, symbol: 0 }; ROUND_CELLS]?,
+            machine_cells: vec![in heap; MachineCell::from(0); ROUND_CELLS]?,
             output: vec![in heap; 0u8; REPORT_BYTES]?,
         })
     }

@@ -68,7 +68,7 @@ fn answer(heap: Global, file: &[u8], out: &mut [u8]) -> anyhow::Result<usize>
 {
     match kind(file) {
         FileKind::MachineCells => {
-            let blank = MachineCell { head: 0, symbol: 0 };
+            let blank = MachineCell::from(0);
             reply_of::<MachineCell, Machine>(heap, blank, file, out)
         }
         FileKind::Bits | FileKind::Other(_) => {

@@ -122,7 +122,7 @@ fn replies_of_bits(rt: HostRuntime) -> Result<(), Fail> {
 
 #[test]
 fn replies_of_machine_cells(rt: HostRuntime) -> Result<(), Fail> {
-    let cell = MachineCell { head: 7, symbol: 7 };
+    let cell = MachineCell::from(0x77);
     let mut cells = [cell; BEAVER_CELLS];
     let long = &mut [FILL; ROOM];
     check_reply::<MachineCell, Machine>(&rt, &mut cells, SAMPLE, long, "refused 24 round 0\n")?;

@@ -264,7 +264,7 @@ fn refuse_machines<const N: usize>(
     cases: &[Case],
 ) -> Result<(), Fail> {
     assert!(rt; N <= BEAVER_CELLS);
-    let cell = MachineCell { head: 7, symbol: 7 };
+    let cell = MachineCell::from(0x77);
     refuse_each::<MachineCell, Machine>(rt, &mut [cell; N], cell, out, BEAVER, cases)
 }
 

@@ -118,7 +118,7 @@ fn reports_of_bits(rt: HostRuntime) -> Result<(), Fail> {
 
 #[test]
 fn reports_of_machine_cells(rt: HostRuntime) -> Result<(), Fail> {
-    let cell = MachineCell { head: 7, symbol: 7 };
+    let cell = MachineCell::from(0x77);
     let (tape, wrong) = ([0x00, 0x9A, 0xCF], [0xFF, 0x00, 0x00]);
     let texts = [
         "age 0\nshadow 0\nhurt 0\n....\n....\n....\n....\ntape 009acf\n",
@@ -141,7 +141,7 @@ fn refuse_both<C: Kind>(rt: &impl Abort, cells: &mut [C]) -> Result<(), Fail> {
 #[test]
 fn refused_reports(rt: HostRuntime) -> Result<(), Fail> {
     refuse_both(&rt, &mut [Bit::Zero; 10])?;
-    let cell = MachineCell { head: 7, symbol: 7 };
+    let cell = MachineCell::from(0x77);
     refuse_both(&rt, &mut [cell; 10])
 }
 
@@ -202,7 +202,7 @@ fn the_longest_report_of_bits(rt: HostRuntime) -> Result<(), Fail> {
 
 #[test]
 fn the_longest_report_of_machine_cells(rt: HostRuntime) -> Result<(), Fail> {
-    let cell = MachineCell { head: 7, symbol: 7 };
+    let cell = MachineCell::from(0x77);
     let mut cells = vec![in rt.alloc(); cell; LARGEST]?;
     let mut out = [FILL; ROOM];
     report_longest(&rt, cells.as_mut_slice(), 0xFE, &mut out)?;

@@ -131,7 +131,7 @@ fn the_sample(rt: HostRuntime) -> Result<(), Fail> {
 // The line after six steps and after five; of the copies, the one that was struck after the last beat, and a plane that is whole.
 #[test]
 fn a_machine(rt: HostRuntime) -> Result<(), Fail> {
-    let cell = MachineCell { head: 7, symbol: 7 };
+    let cell = MachineCell::from(0x77);
     let mut cells = [cell; BEAVER_CELLS + 1];
     check_play::<MachineCell, Machine>(&rt, &mut cells, BEAVER, BEAVER_REPORT)?;
     check_cells(&rt, &cells[5..10], &[0, 0, 0, 0x20, 0]);

@@ -1,13 +1,13 @@
--- Machine cells are equal where head and symbol are.
+-- Machine cells are equal where their bytes are, and so where head and symbol are.
 use Rattle.std.specs.Prelude.{◌≡◌, ◌<◌}
 use mathlib.Core.HLevel.{is_prop→PathP}
+use Rattle.std.proofs.Common.{arith}
 use Rattle.std.proofs.Math.Bridge.{le_prop}
 use Rattle.toom.specs.declared.machine_cell.MachineCell.{MachineCell}
+use Rattle.toom.specs.MachineCell.{head_of_cell, symbol_of_cell}
 
-pub cells_equal : (x y : MachineCell) → x.head ≡ y.head → x.symbol ≡ y.symbol → x ≡ y
-cells_equal x y p q = λ i. record {
-  head = p i;
-  symbol = q i;
-  head_fits = is_prop→PathP (λ j. p j < 16) (λ j. le_prop) x.head_fits y.head_fits i;
-  symbol_fits = is_prop→PathP (λ j. q j < 16) (λ j. le_prop) x.symbol_fits y.symbol_fits i;
-}
+pub cells_equal : (x y : MachineCell) → x.byte ≡ y.byte → x ≡ y
+cells_equal x y p = λ i. record { byte = p i; fits = is_prop→PathP (λ j. p j < 256) (λ j. le_prop) x.fits y.fits i }
+
+pub parts_equal : (x y : MachineCell) → head_of_cell x ≡ head_of_cell y → symbol_of_cell x ≡ symbol_of_cell y → x ≡ y
+parts_equal x y p q = cells_equal x y (omega arith)

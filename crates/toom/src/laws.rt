@@ -2,7 +2,7 @@
 ghost use Rattle.std.specs.Prelude.{◌≡◌, Decides};
 ghost use Rattle.toom.specs.Bit.{equal_bits};
 ghost use Rattle.toom.specs.Inclusion.{VoteKeepsInclusion};
-ghost use Rattle.toom.specs.MachineCell.{equal_machine_cells};
+ghost use Rattle.toom.specs.MachineCell.{SameParts, equal_machine_cells};
 ghost use Rattle.toom.specs.Lines.{LinesStay, BoundIsSharp};
 ghost use Rattle.toom.specs.Shadow.{MarksPin, equal_shadows};
 ghost use Rattle.toom.specs.Triangle.{TriangleShrinks, TriangleVanishes};
@@ -41,11 +41,13 @@ pub fn inclusion_is_kept()
     ensures { VoteKeepsInclusion }
 {}
 
-// What `==` says: of bits, of machine cells and of shadows what their definitions say; and of shadows it decides equality.
+// What `==` says: of bits, of machine cells and of shadows what their definitions say; of machine cells it decides whether head and symbol are the
+// same, and of shadows equality.
 #[tactic(auto, using(crate::specs::EqualShadows::equal_shadows_decides))]
 pub fn sameness_is_equality()
     ensures bits { (x y : Bit) → ⟦<Bit as PartialEq>⟧.eq x y ≡ equal_bits x y }
     ensures machine_cells { (x y : MachineCell) → ⟦<MachineCell as PartialEq>⟧.eq x y ≡ equal_machine_cells x y }
+    ensures parts { (x y : MachineCell) → Decides (⟦<MachineCell as PartialEq>⟧.eq x y) (SameParts x y) }
     ensures shadows { (x y : Shadow) → ⟦<Shadow as PartialEq>⟧.eq x y ≡ equal_shadows x y }
     ensures decides { (x y : Shadow) → Decides (⟦<Shadow as PartialEq>⟧.eq x y) (x ≡ y) }
 {}

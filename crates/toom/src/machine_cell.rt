@@ -1,10 +1,11 @@
 // The machine cell: the kind of cell with a head and a symbol, each from 0 to 15; head 0 means no head.
 ghost use Rattle.std.specs.Prelude.{◌<◌};
 
+pub mod calls;
+
+// It is its byte, the head in the high four bits and the symbol in the low four, so that it takes one byte of memory.
 #[derive(Clone, Copy, PartialEq, Eq, Debug)]
 pub struct MachineCell {
-    pub head: u8,
-    pub symbol: u8,
-    ghost head_fits: { head < 16 },
-    ghost symbol_fits: { symbol < 16 },
+    pub(crate) byte: u8,
+    ghost fits: { byte < 256 },
 }

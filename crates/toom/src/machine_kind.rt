@@ -1,7 +1,7 @@
 // The machine cell as a kind: head in the high four bits of its byte, symbol in the low four.
 ghost use Rattle.toom.specs.MachineCell.{byte_of_machine_cell, machine_cell_of_byte};
-ghost use Rattle.std.specs.Prelude.{Some, ◌==◌};
-ghost use Rattle.std.proofs.lemmas.Bool.{and_parts, eqb-true};
+ghost use Rattle.std.specs.Prelude.{Some};
+ghost use Rattle.std.proofs.lemmas.Bool.{eqb-true};
 ghost use Rattle.toom.specs.MachineCells.{cells_equal};
 ghost use Rattle.std.proofs.Common.{ap, arith, rules};
 
@@ -15,24 +15,19 @@ impl Kind for MachineCell {
 
     ghost reflexive = { Prim.search rules };
 
-    ghost exact = { λ x y e.
-        let parts = and_parts (x.head == y.head) (x.symbol == y.symbol) e in
-        cells_equal x y (eqb-true _ _ parts.0) (eqb-true _ _ parts.1) };
+    ghost exact = { λ x y e. cells_equal x y (eqb-true _ _ e) };
 
-    ghost bounded = { Prim.search rules };
+    ghost bounded = { λ x. x.fits };
 
-    ghost readback = { λ x. ap Some (cells_equal _ x (omega arith) (omega arith)) };
+    ghost readback = { λ x. ap Some (cells_equal _ x (omega arith)) };
 
     ghost unique = { Prim.search rules };
 
     fn byte(self) -> u8 {
-        16 * self.head + self.symbol
+        self.byte
     }
 
     fn from_byte(byte: u8) -> Option<MachineCell> {
-        Some(MachineCell {
-            head: byte >> 4,
-            symbol: byte & 15,
-        })
+        Some(MachineCell::from(byte))
     }
 }

@@ -7,6 +7,7 @@ ghost use Rattle.hosts.specs.MachineRule.{entry_of, machine_rule};
 use crate::host::Host;
 use crate::machine::Machine;
 use crate::machine::deed::Deed;
+use toom::kind::Kind;
 use toom::machine_cell::MachineCell;
 
 impl Machine {
@@ -14,7 +15,7 @@ impl Machine {
     fn deed(&self, cell: MachineCell) -> Deed
         ensures { result ≡ deed_of (head_of cell) (symbol_of cell) (entry_of self.now cell) }
     {
-        self.deeds[(16 * cell.head + cell.symbol) as usize]
+        self.deeds[cell.byte() as usize]
     }
 }
 
@@ -40,9 +41,6 @@ impl Host<MachineCell> for Machine {
     {
         let own = self.deed(centre);
         let head = next_head(own, self.deed(left), self.deed(right));
-        MachineCell {
-            head,
-            symbol: own.symbol,
-        }
+        MachineCell::from(16 * head + own.symbol)
     }
 }

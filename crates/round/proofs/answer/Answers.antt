@@ -1,4 +1,4 @@
-use Rattle.std.proofs.Common.{refl, ap, Some}
+use Rattle.std.proofs.Common.{refl, ap, Some, arith}
 use Rattle.toom.specs.MachineCells.{cells_equal}
 use Rattle.toom.specs.declared.bit.Bit.TheVariants.{Zero, One}
 use Rattle.rounds.specs.declared.file_kind.FileKind.TheVariants.{MachineCells}
@@ -18,7 +18,7 @@ returns-in-Bits-clause-answered c =
     c.reply_of-in-Bits.ensures.replied
 
 pub reply_of-requires-clause-blank : goal.reply_of-requires-clause-blank
-reply_of-requires-clause-blank c = ap Some (cells_equal _ _ refl refl)
+reply_of-requires-clause-blank c = ap Some (cells_equal _ _ (omega arith))
 
 pub returns-in-MachineCells-clause-pinned : goal.returns-in-MachineCells-clause-pinned
 returns-in-MachineCells-clause-pinned c = one_reply_each

@@ -6,4 +6,4 @@ pub returns : goal.returns
 returns c =
     let m = c.args.self.now in
     let x = c.args.cell in
-    looked_up m x _ (omega (arith, m.told, x.head_fits, x.symbol_fits))
+    rw c.byte.ensures (looked_up m x _ (omega (arith, m.told, x.fits)))
