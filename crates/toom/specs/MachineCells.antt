@@ -4,10 +4,10 @@ use mathlib.Core.HLevel.{is_prop→PathP}
 use Rattle.std.proofs.Common.{arith}
 use Rattle.std.proofs.Math.Bridge.{le_prop}
 use Rattle.toom.specs.declared.machine_cell.MachineCell.{MachineCell}
-use Rattle.toom.specs.MachineCell.{head_of_cell, symbol_of_cell}
+use Rattle.toom.specs.MachineCell.{SameParts}
 
 pub cells_equal : (x y : MachineCell) → x.byte ≡ y.byte → x ≡ y
 cells_equal x y p = λ i. record { byte = p i; fits = is_prop→PathP (λ j. p j < 256) (λ j. le_prop) x.fits y.fits i }
 
-pub parts_equal : (x y : MachineCell) → head_of_cell x ≡ head_of_cell y → symbol_of_cell x ≡ symbol_of_cell y → x ≡ y
-parts_equal x y p q = cells_equal x y (omega arith)
+pub parts_equal : (x y : MachineCell) → SameParts x y → x ≡ y
+parts_equal x y same = cells_equal x y (omega arith)

@@ -19,6 +19,12 @@ pub fn vote_heals<C: Kind>()
     ensures planes { HealsOutside C.eq }
 {}
 
+// A machine cell is its head and its symbol, and nothing else.
+#[tactic(auto, using(crate::specs::MachineCells::parts_equal))]
+pub fn parts_pin()
+    ensures { (x y : MachineCell) → SameParts x y → x ≡ y }
+{}
+
 // A shadow is its side and its marks, so the vote depends on nothing but the bits.
 pub fn marks_pin()
     ensures { MarksPin }
