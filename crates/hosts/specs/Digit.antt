@@ -1,9 +1,10 @@
 -- A digit: a number from 0 to 15, as a machine cell has for its head and for its symbol.
-use Rattle.std.proofs.Common.{lit<, arith}
-use Rattle.std.proofs.Math.Nat.{mod-lt}
+use Rattle.std.proofs.Common.{lit<}
+use Rattle.std.proofs.Math.Nat.{mod-lt, div-lt_iff_lt-mul}
 use Rattle.std.specs.Prelude.{ℕ, ◌+◌, ◌*◌, ◌<◌}
 use Rattle.toom.specs.declared.machine_cell.MachineCell.{MachineCell}
 use Rattle.toom.specs.MachineCell.{head_of_cell, symbol_of_cell}
+use Rattle.toom.specs.MachineCells.{parts_fit}
 use Rattle.hosts.specs.declared.entry.Entry.{Entry}
 
 pub record Digit : Type 0 where
@@ -15,10 +16,11 @@ zero_digit = record { value = 0; fits = lit< tt }
 
 -- The machine cell of a head and a symbol, and back.
 abbrev pub cell : (head symbol : Digit) → MachineCell
-cell head symbol = record { byte = 16 * head.value + symbol.value; fits = omega arith }
+cell head symbol =
+    record { byte = 16 * head.value + symbol.value; fits = parts_fit head.value symbol.value head.fits symbol.fits }
 
 abbrev pub head_of : MachineCell → Digit
-head_of x = record { value = head_of_cell x; fits = omega arith }
+head_of x = record { value = head_of_cell x; fits = (div-lt_iff_lt-mul (lit< tt)).1 x.fits }
 
 abbrev pub symbol_of : MachineCell → Digit
 symbol_of x = record { value = symbol_of_cell x; fits = mod-lt x.byte (lit< tt) }

@@ -20,7 +20,6 @@ pub fn vote_heals<C: Kind>()
 {}
 
 // A machine cell is its head and its symbol, and nothing else.
-#[tactic(auto, using(crate::specs::MachineCells::parts_equal))]
 pub fn parts_pin()
     ensures { (x y : MachineCell) → SameParts x y → x ≡ y }
 {}

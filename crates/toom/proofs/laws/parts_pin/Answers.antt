@@ -1,0 +1,6 @@
+use Rattle.std.proofs.Common.{arith}
+use Rattle.toom.specs.MachineCells.{cells_equal}
+use Rattle.toom.proofs.laws.parts_pin.Goals as goal
+
+pub returns : goal.returns
+returns c x y same = cells_equal x y (omega arith)
