@@ -24,10 +24,8 @@ pub mod Rings
 pub mod Standing
 pub mod Strikes
 pub mod Sweeps
-pub mod SweptAll
 pub mod SweptBeats
-pub mod SweptColumns
-pub mod SweptPlanes
+pub mod SweptEdges
+pub mod SweptPlaces
 pub mod SweptRings
-pub mod SweptRows
 pub mod Totals

@@ -1,8 +1,8 @@
 -- What the sweeps over a plate's cells leave, place by place.
 use Rattle.std.specs.Prelude.{◌≡◌, ℕ, ◌+◌, ◌*◌, ◌<◌, ◌≤◌, Bool, ◌⊎◌, List, get_or, slice_index_or}
-use Rattle.toom.specs.Torus.{next}
-use Rattle.toom.specs.Vote.{vote_of, voted}
+use Rattle.toom.specs.Vote.{voted}
 use Rattle.hosts.specs.Ring.{stepped}
+use Rattle.plate.specs.Layout.{copy_at, voted_at}
 
 -- The places to .. to + count and from .. from + count have none in common.
 abbrev pub Apart : (to from count : ℕ) → Type 0
@@ -21,15 +21,23 @@ pub record Swept {C : Type 0} (to count : ℕ) (wanted : Wanted C) (before after
 abbrev pub HostAnswers : {C : Type 0} → (host : C → C → C → C) (a b c : ℕ) → List C → Wanted C
 HostAnswers host a b c before j d x = x ≡ host (slice_index_or before (a + j) d) (slice_index_or before (b + j) d) (slice_index_or before (c + j) d)
 
--- The vote of a row of `side` cells at own, with the row at north north of it.
-abbrev pub RowVotes : {C : Type 0} → (equal : C → C → Bool) (north own side : ℕ) → List C → Wanted C
-RowVotes equal north own side before c d x =
-    x ≡ vote_of equal (slice_index_or before (north + c) d) (slice_index_or before (own + next side c) d) (slice_index_or before (own + c) d)
+-- The places of the last column and of the last row, but for the corner; and both with the corner.
+abbrev pub InColumn : (side r c : ℕ) → Type 0
+InColumn side r c = (r + 1 < side) × (c + 1 ≡ side)
 
--- The vote of the plane at own, row by row.
-abbrev pub PlaneVotes : {C : Type 0} → (equal : C → C → Bool) (own side : ℕ) → List C → Wanted C
-PlaneVotes equal own side before j d x =
-    (r c : ℕ) → r < side → c < side → j ≡ r * side + c → x ≡ voted equal side (λ p q. get_or before (own + (p * side + q)) d) r c
+abbrev pub InRow : (side r c : ℕ) → Type 0
+InRow side r c = (r + 1 ≡ side) × (c + 1 < side)
+
+abbrev pub OnEdge : (side r c : ℕ) → Type 0
+OnEdge side r c = (r + 1 ≡ side) ⊎ (c + 1 ≡ side)
+
+-- Of n planes that begin at 0 the places that are `among` are voted, into the votes; the others stay.
+pub record PlacesVoted {C : Type 0} (equal : C → C → Bool) (n side : ℕ) (among : (i r c : ℕ) → Type 0) (before after : List C) : Type 0 where
+  pub inside : (i r c : ℕ) (d : C) → i < n → r < side → c < side → among i r c
+      → slice_index_or after (voted_at n side i r c) d ≡ voted equal side (λ p q. slice_index_or before (copy_at side i p q) d) r c
+  pub others : (i r c : ℕ) (d : C) → i < n → r < side → c < side → (among i r c → ⊥)
+      → slice_index_or after (voted_at n side i r c) d ≡ slice_index_or before (voted_at n side i r c) d
+  pub outside : (k : ℕ) (d : C) → (k < n * (side * side)) ⊎ (2 * (n * (side * side)) ≤ k) → slice_index_or after k d ≡ slice_index_or before k d
 
 -- The votes of n planes that begin at 0, plane by plane.
 abbrev pub PlanesVotes : {C : Type 0} → (equal : C → C → Bool) (n side : ℕ) → List C → Wanted C

@@ -1,10 +1,10 @@
 // Sweeps over a plate's cells: each reads one part of the memory and writes another.
-ghost use Rattle.std.specs.Prelude.{◌+◌, ◌*◌, ◌≤◌, length};
-ghost use Rattle.toom.specs.Torus.{Side};
+ghost use Rattle.std.specs.Prelude.{◌≡◌, ◌+◌, ◌*◌, ◌<◌, ◌≤◌, ◌⊎◌, length};
+ghost use Rattle.toom.specs.Torus.{Side, next};
 ghost use Rattle.toom.specs.Vote.{vote_of};
 ghost use Rattle.plate.specs.BeatCall.{CellsBeaten};
 ghost use Rattle.plate.specs.Layout.{size_of};
-ghost use Rattle.plate.specs.Sweep.{Apart, Swept, HostAnswers, RowVotes, PlaneVotes, PlanesVotes, RingSteps};
+ghost use Rattle.plate.specs.Sweep.{Apart, Swept, HostAnswers, InColumn, InRow, OnEdge, PlacesVoted, PlanesVotes, RingSteps};
 
 use crate::shape::Shape;
 use hosts::host::Host;
@@ -47,58 +47,144 @@ fn fill<C: Kind, H: Host<C>>(
     }
 }
 
-// Votes the row at own, with the row at north north of it. East of the last column is the first. The side and no shape: a row has no planes.
-fn vote_row<C: Kind>(cells: &mut [C], to: usize, north: usize, own: usize, side: usize)
+// The row or column after one, round the torus.
+fn after(at: usize, side: usize) -> usize
     requires side { Side side }
-    requires to { to + side ≤ length cells.old }
-    requires north { north + side ≤ to }
-    requires own { own + side ≤ to }
-    ensures { Swept to side (RowVotes C.eq north own side cells.old) cells.old cells.new }
+    requires at { at < side }
+    ensures { result ≡ next side at }
 {
-    let last = side - 1;
-    fill(&Ballot, cells, to, north, own + 1, own, last);
-    fill(&Ballot, cells, to + last, north + last, own, own + last, 1);
+    if at + 1 == side { 0 } else { at + 1 }
 }
 
-// Votes the plane at own. All rows but the last are voted in one sweep, with an east that is wrong in the last column: so that column is voted
-// again. Many short sweeps would take longer. North of the last row is the first. The side and no shape: it is one plane of those of a shape.
-fn vote_plane<C: Kind>(cells: &mut [C], to: usize, own: usize, side: usize)
-    requires side { Side side }
-    requires to { to + side * side ≤ length cells.old }
-    requires own { own + side * side ≤ to }
-    ensures { Swept to (side * side) (PlaneVotes C.eq own side cells.old) cells.old cells.new }
+// Writes one vote: `fill` of one place, without its loop.
+fn vote_one<C: Kind>(cells: &mut [C], to: usize, north: usize, east: usize, own: usize)
+    requires to { to < length cells.old }
+    requires north { north < length cells.old }
+    requires east { east < length cells.old }
+    requires own { own < length cells.old }
+    ensures { Swept to 1 (HostAnswers (vote_of C.eq) north east own cells.old) cells.old cells.new }
 {
-    let last = side - 1;
-    fill(&Ballot, cells, to, own + side, own + 1, own, last * side);
-    // By index: a row is read with the next one, out of the slice that is written.
-    for r in 0..last {
-        let row = r * side;
-        fill(
-            &Ballot,
+    cells[to] = vote(cells[north], cells[east], cells[own]);
+}
+
+// Votes one place of every plane.
+fn vote_place<C: Kind>(cells: &mut [C], shape: Shape, row: usize, column: usize)
+    requires cells { 2 * (shape.planes * (shape.side * shape.side)) ≤ length cells.old }
+    requires row { row < shape.side }
+    requires column { column < shape.side }
+    ensures { PlacesVoted C.eq shape.planes shape.side (λ i r c. (r ≡ row) × (c ≡ column)) cells.old cells.new }
+{
+    let side = shape.side;
+    let area = shape.area();
+    let votes = shape.copies();
+    let north = after(row, side) * side + column;
+    let east = row * side + after(column, side);
+    let own = row * side + column;
+    // By index: the planes are read out of the slice that is written.
+    for i in 0..shape.planes {
+        let plane = i * area;
+        vote_one(
             cells,
-            to + row + last,
-            own + row + side + last,
-            own + row,
-            own + row + last,
-            1,
+            votes + plane + own,
+            plane + north,
+            plane + east,
+            plane + own,
         );
     }
-    let row = last * side;
-    vote_row(cells, to + row, own, own + row, side);
 }
 
-// Votes the planes into the part of the memory after them.
+// Votes the last column of plane i, but for its last place.
+fn vote_last_column<C: Kind>(cells: &mut [C], shape: Shape, i: usize)
+    requires cells { 2 * (shape.planes * (shape.side * shape.side)) ≤ length cells.old }
+    requires plane { i < shape.planes }
+    ensures { PlacesVoted C.eq shape.planes shape.side (λ k r c. (k ≡ i) × InColumn shape.side r c) cells.old cells.new }
+{
+    let side = shape.side;
+    let last = side - 1;
+    let plane = i * shape.area();
+    let votes = shape.copies();
+    // By index: a row is read with the next one, out of the slice that is written.
+    for r in 0..last {
+        let row = plane + r * side;
+        vote_one(
+            cells,
+            votes + row + last,
+            row + side + last,
+            row,
+            row + last,
+        );
+    }
+}
+
+// Votes the last row of plane i, but for its last place.
+fn vote_last_row<C: Kind>(cells: &mut [C], shape: Shape, i: usize)
+    requires cells { 2 * (shape.planes * (shape.side * shape.side)) ≤ length cells.old }
+    requires plane { i < shape.planes }
+    ensures { PlacesVoted C.eq shape.planes shape.side (λ k r c. (k ≡ i) × InRow shape.side r c) cells.old cells.new }
+{
+    let last = shape.side - 1;
+    let plane = i * shape.area();
+    let row = plane + last * shape.side;
+    fill(
+        &Ballot,
+        cells,
+        shape.copies() + row,
+        plane,
+        row + 1,
+        row,
+        last,
+    );
+}
+
+// Votes the last columns and rows but for the corners, plane by plane.
+fn vote_along<C: Kind>(cells: &mut [C], shape: Shape)
+    requires { 2 * (shape.planes * (shape.side * shape.side)) ≤ length cells.old }
+    ensures { PlacesVoted C.eq shape.planes shape.side (λ i r c. InColumn shape.side r c ⊎ InRow shape.side r c) cells.old cells.new }
+{
+    for i in 0..shape.planes {
+        vote_last_column(cells, shape, i);
+        vote_last_row(cells, shape, i);
+    }
+}
+
+// The same place by place, each in all planes.
+fn vote_across<C: Kind>(cells: &mut [C], shape: Shape)
+    requires { 2 * (shape.planes * (shape.side * shape.side)) ≤ length cells.old }
+    ensures { PlacesVoted C.eq shape.planes shape.side (λ i r c. InColumn shape.side r c ⊎ InRow shape.side r c) cells.old cells.new }
+{
+    let last = shape.side - 1;
+    for j in 0..last {
+        vote_place(cells, shape, j, last);
+        vote_place(cells, shape, last, j);
+    }
+}
+
+// A loop over fewer places costs more to set up than the places do.
+const SHORT: usize = 8;
+
+// Votes the last column and the last row of every plane.
+fn vote_edges<C: Kind>(cells: &mut [C], shape: Shape)
+    requires { 2 * (shape.planes * (shape.side * shape.side)) ≤ length cells.old }
+    ensures { PlacesVoted C.eq shape.planes shape.side (λ i r c. OnEdge shape.side r c) cells.old cells.new }
+{
+    let last = shape.side - 1;
+    vote_place(cells, shape, last, last);
+    if shape.side < SHORT {
+        vote_across(cells, shape);
+    } else {
+        vote_along(cells, shape);
+    }
+}
+
+// Votes the planes into the part of the memory after them. One sweep over all of them takes least time. Its north is wrong in the last rows, and
+// its east in the last columns: so these are voted again.
 fn vote_planes<C: Kind>(cells: &mut [C], shape: Shape)
     requires { 2 * (shape.planes * (shape.side * shape.side)) ≤ length cells.old }
     ensures { Swept (shape.planes * (shape.side * shape.side)) (shape.planes * (shape.side * shape.side)) (PlanesVotes C.eq shape.planes shape.side cells.old) cells.old cells.new }
 {
-    let area = shape.area();
     let votes = shape.copies();
-    // By index: the planes are read out of the slice that is written.
-    for i in 0..shape.planes {
-        let plane = i * area;
-        vote_plane(cells, votes + plane, plane, shape.side);
-    }
+    fill(&Ballot, cells, votes, shape.side, 1, 0, votes - shape.side);
+    vote_edges(cells, shape);
 }
 
 // One step of the ring of n blocks of w cells at from. The first and the last block have a neighbour at the ring's other end.
