@@ -51,6 +51,12 @@ class Round:
             return "refused " + self.reply.split()[1].decode()
         return self.reply.splitlines()[-1].rsplit(b" ", 1)[0].decode()
 
+    def is_whole(self):
+        """Whether the file is as long as its header says."""
+        header = int.from_bytes(self.file[:9], "big")
+        planes, host, script = (header >> 52 & 4095) + 1, header >> 16 & 0xffff, header & 0xffff
+        return len(self.file) == 9 + host + planes + script
+
     def age(self):
         """The age that a report tells; 0 for a refusal."""
         return int(self.reply.split()[1]) if self.reply.startswith(b"age ") else 0
@@ -61,9 +67,9 @@ def read(second, folder):
 
 
 def choose(rounds):
-    """The round with the longest reply, and that with the greatest age; the first round of each scenario, and the first
-    of each kind in it that is not large; the first three small ones of each kind and ending; and then small ones, the
-    first first. No file twice, and all in the order of `rounds`."""
+    """The round with the longest reply, that with the greatest age, and the shortest that is refused for its length alone;
+    the first round of each scenario, and the first of each kind in it that is not large; the first three small ones of
+    each kind and ending; and then small ones, the first first. No file twice, and all in the order of `rounds`."""
     scenarios, kinds, files, endings, chosen = set(), set(), set(), collections.Counter(), set()
 
     def take(wanted):
@@ -75,8 +81,10 @@ def choose(rounds):
                 endings[round_.kind(), round_.ending()] += 1
                 chosen.add(i)
 
-    greatest = max(rounds, key=lambda round_: len(round_.reply)), max(rounds, key=Round.age)
-    take(lambda round_: round_ in greatest)
+    too_long = (round_ for round_ in rounds if round_.is_whole() and round_.ending() == "refused 25")
+    bounds = [max(rounds, key=lambda round_: len(round_.reply)), max(rounds, key=Round.age),
+              min(too_long, key=lambda round_: len(round_.file))]
+    take(lambda round_: round_ in bounds)
     take(lambda round_: round_.scenario not in scenarios)
     take(lambda round_: (round_.scenario, round_.kind()) not in kinds and round_.size() < LARGE)
     take(lambda round_: endings[round_.kind(), round_.ending()] < EACH and round_.size() <= SMALL)
