@@ -64,13 +64,13 @@ lowest_bit n j h =
     ap (λ i. n % 2 ^ i % 2) more ∙ mod-mod-pow n (j - 1) 1
 
 -- Bit k of a number below the cut at m bits, m above k, is that of the number.
-cut_bit : (n m k : ℕ) → k < m → n % 2 ^ m / 2 ^ k % 2 ≡ n / 2 ^ k % 2
+pub cut_bit : (n m k : ℕ) → k < m → n % 2 ^ m / 2 ^ k % 2 ≡ n / 2 ^ k % 2
 cut_bit n m k h =
     let more : m ≡ (m - k) + k = omega arith in
     ap (λ i. n % 2 ^ i / 2 ^ k % 2) more ∙ ap (λ i. i % 2) (field_of n (m - k) k) ∙ lowest_bit (n / 2 ^ k) (m - k) (omega arith)
 
 -- So it is zero where the lowest m bits are.
-low_bit : (n m k : ℕ) → k < m → n % 2 ^ m ≡ 0 → n / 2 ^ k % 2 ≡ 0
+pub low_bit : (n m k : ℕ) → k < m → n % 2 ^ m ≡ 0 → n / 2 ^ k % 2 ≡ 0
 low_bit n m k h e = sym (cut_bit n m k h) ∙ ap (λ i. i / 2 ^ k % 2) e ∙ ap (λ i. i % 2) (zero-div (2 ^ k))
 
 pub column_past : (side w c : ℕ) → Narrow side w → side ≤ c → c < 64 → column w c ≡ false

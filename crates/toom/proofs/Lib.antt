@@ -1,10 +1,13 @@
 pub mod Columns
+pub mod Emptiness
 pub mod FullLines
 pub mod Inclusions
 pub mod Modular
 pub mod RowVotes
 pub mod RowWords
 pub mod Shadows
+pub mod Spans
+pub mod Stretching
 pub mod Triangles
 pub mod Turns
 pub mod Votes

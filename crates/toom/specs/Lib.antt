@@ -7,6 +7,8 @@ pub mod MachineCells
 pub mod Rows
 pub mod Shadow
 pub mod ShadowCalls
+pub mod Spans
+pub mod Stretches
 pub mod Torus
 pub mod Triangle
 pub mod Vote

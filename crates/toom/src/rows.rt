@@ -1,9 +1,10 @@
-// Rows of bits in 64-bit words, column 0 in the highest bit: the vote of a row, and a mark in one. A row is a plain word with the side beside it:
-// a struct of both would keep the side once for each row.
-ghost use Rattle.std.specs.Prelude.{◌≡◌, ℕ, ◌<◌, ◌≤◌, ◌||◌, length, ◌==◌, slice_index};
+// Rows of bits in 64-bit words, column 0 in the highest bit: the vote of a row, a mark in one, and its marked columns that stand one after another.
+// A row is a plain word with the side beside it: a struct of both would keep the side once for each row.
+ghost use Rattle.std.specs.Prelude.{◌≡◌, ◌↔◌, ℕ, ◌<◌, ◌≤◌, IsTrue, ◌||◌, All, length, ◌==◌, slice_index};
 ghost use Rattle.std.specs.List.{sum_by};
 ghost use Rattle.std.specs.Int.Count.{ones};
 ghost use Rattle.toom.specs.Rows.{Narrow, column, RowVote, RowsVote};
+ghost use Rattle.toom.specs.Spans.{SpanGiven};
 ghost use Rattle.toom.specs.Torus.{Side, next};
 
 // The row as its eastern neighbours see it: each column has the bit of the next, the last that of column 0.
@@ -38,12 +39,41 @@ pub(crate) fn with_column(row: u64, at: usize, side: usize) -> u64
     row | 1 << (63 - at)
 }
 
+// Columns of a row, one after another.
+#[derive(Clone, Copy)]
+pub(crate) struct Span {
+    // the first of them
+    pub(crate) column: usize,
+    pub(crate) length: usize,
+}
+
+// The first marked columns of the row from this column on, as many as stand one after another, or none where no column from there on is marked.
+pub(crate) fn first_span(row: u64, from: usize) -> Option<Span>
+    ensures { SpanGiven row from result }
+{
+    if from >= 64 || row << from == 0 {
+        return None;
+    }
+    let column = from + (row << from).leading_zeros() as usize;
+    Some(Span {
+        column,
+        length: (row << column).leading_ones() as usize,
+    })
+}
+
 // How many columns of these rows are marked.
 pub(crate) fn count_columns(rows: &[u64]) -> usize
     requires { length rows.now ≤ 64 }
     ensures { result ≡ sum_by ones rows.now }
 {
     rows.iter().map(|row| row.count_ones() as usize).sum()
+}
+
+// Whether none of these rows has a marked column.
+pub(crate) fn are_clear(rows: &[u64]) -> bool
+    ensures { IsTrue result ↔ All (λ row. row ≡ 0) rows.now }
+{
+    rows.iter().all(|row| *row == 0)
 }
 
 // Votes the rows of a torus. A row is voted before its southern one, so that both rows it needs are still old; the last needs the first. By index,

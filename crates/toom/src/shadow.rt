@@ -4,6 +4,7 @@ ghost use Rattle.toom.specs.Rows.{Narrow};
 ghost use Rattle.toom.specs.Torus.{Side};
 
 pub mod calls;
+pub mod stretches;
 
 // The rows and columns that a torus may have. The vote of a place on a torus of one row would be of one cell; a row is one 64-bit word.
 pub const MIN_SIDE: usize = 2;

@@ -1,10 +1,10 @@
-// The calls on a shadow: make it empty, add a place, ask one, vote it whole, count its places, write its rows.
-ghost use Rattle.std.specs.Prelude.{◌≡◌};
+// The calls on a shadow: make it empty, add a place, ask one, vote it whole, count its places, ask whether there are any, write its rows.
+ghost use Rattle.std.specs.Prelude.{◌≡◌, ◌↔◌, IsTrue, false};
 ghost use Rattle.toom.specs.Shadow.{marks};
 ghost use Rattle.toom.specs.ShadowCalls.{Emptied, Asked, Added, Voted, Written};
-ghost use Rattle.toom.specs.Torus.{count_marks};
+ghost use Rattle.toom.specs.Torus.{Everywhere, count_marks};
 
-use crate::rows::{count_columns, vote_rows, with_column};
+use crate::rows::{are_clear, count_columns, vote_rows, with_column};
 use crate::shadow::{MAX_SIDE, MIN_SIDE, Shadow};
 
 // The row or the column of a place is not below the side.
@@ -68,6 +68,13 @@ impl Shadow {
         ensures { result ≡ count_marks self.now.side (marks self.now) }
     {
         count_columns(&self.rows[..self.side])
+    }
+
+    // Whether no place is marked.
+    pub fn is_empty(&self) -> bool
+        ensures { IsTrue result ↔ Everywhere self.now.side (λ r c. marks self.now r c ≡ false) }
+    {
+        are_clear(&self.rows[..self.side])
     }
 
     pub fn write(&self, out: &mut [u64]) -> Result<(), TooShort>

@@ -1,8 +1,9 @@
-use Rattle.std.proofs.Common.{◌≡◌, ℕ, ◌-◌, ◌%◌, ◌^◌, false, eqb, get_or, replicate, sym, refl, ap, ◌∙◌, subst, inl, inr, arith}
-use native.Mathlib.Nat.{zero-mod, zero-div}
+use Rattle.std.proofs.Common.{◌≡◌, ℕ, ◌-◌, ◌^◌, get_or, replicate, sym, refl, ap, ◌∙◌, subst, inl, inr, arith}
+use native.Mathlib.Nat.{zero-mod}
 use Rattle.std.proofs.lemmas.List.{get_or-replicate, get_or_past}
 use Rattle.std.proofs.lemmas.Bool.{cases_lt}
 use Rattle.toom.specs.Rows.{column, Narrow}
+use Rattle.toom.proofs.Spans.{column_zero}
 use Rattle.toom.proofs.shadow.Shadow.empty.Goals as goal
 
 zero_row : (r : ℕ) → get_or {A = ℕ} (replicate 64 0) r 0 ≡ 0
@@ -15,9 +16,6 @@ zero_row r =
 zero_narrow : (side : ℕ) → Narrow side 0
 zero_narrow side = (omega arith, zero-mod (2 ^ (64 - side)))
 
-zero_column : (c : ℕ) → column 0 c ≡ false
-zero_column c = ap (λ n. eqb (n % 2) 1) (zero-div (2 ^ (63 - c)))
-
 pub invariant_of-result : goal.invariant_of-result
 invariant_of-result c =
     let side = c.args.side in
@@ -29,4 +27,4 @@ invariant_of-result c =
     }
 
 pub returns : goal.returns
-returns c = record { sides = refl; places = λ r k h l. ap (λ w. column w k) (zero_row r) ∙ zero_column k }
+returns c = record { sides = refl; places = λ r k h l. ap (λ w. column w k) (zero_row r) ∙ column_zero k }
