@@ -1,5 +1,8 @@
 pub mod Accepted
+pub mod BeatenBy
 pub mod Beats
+pub mod BeatsLead
+pub mod Existing
 pub mod Follows
 pub mod Going
 pub mod Grids
@@ -7,10 +10,13 @@ pub mod HealedReadings
 pub mod Heals
 pub mod Hurts
 pub mod Layings
+pub mod Leading
+pub mod LineStep
 pub mod Majorities
 pub mod MajoritiesMeet
 pub mod Paints
 pub mod PinnedAnswers
+pub mod PinnedCalls
 pub mod PinnedCells
 pub mod PinnedEffects
 pub mod PinnedFaults
@@ -21,6 +27,8 @@ pub mod PlaneParts
 pub mod Quiet
 pub mod Readings
 pub mod Rings
+pub mod SettledPlaces
+pub mod ShortRings
 pub mod Standing
 pub mod Strikes
 pub mod Sweeps
@@ -29,3 +37,7 @@ pub mod SweptEdges
 pub mod SweptPlaces
 pub mod SweptRings
 pub mod Totals
+pub mod WoundBeats
+pub mod WoundLooks
+pub mod WoundStretches
+pub mod WrittenPlaces

@@ -21,7 +21,7 @@ by_copy n side some P copies k k< =
     (mod_below (k % w) side some))
 
 -- What holds at every place of the layout and beyond it holds everywhere.
-by_place : (n side : ℕ) → 1 ≤ side → (P : ℕ → Type 0)
+pub by_place : (n side : ℕ) → 1 ≤ side → (P : ℕ → Type 0)
     → ((i r c : ℕ) → i < n → r < side → c < side → P (copy_at side i r c))
     → ((i r c : ℕ) → i < n → r < side → c < side → P (voted_at n side i r c))
     → ((i : ℕ) → i < n → P (line_at n side i)) → ((i : ℕ) → i < n → P (earlier_at n side i))

@@ -8,6 +8,10 @@ use Rattle.plate.specs.Layout.{size_of}
 pub some_same : {X : Type 0} (x y : X) → Some x ≡ Some y → x ≡ y
 some_same x y e = cc
 
+-- A question that passes refuses nothing.
+pub not_both : {X : Type 0} (o : Option X) (x : X) → o ≡ None → o ≡ Some x → ⊥
+not_both o x none some = let z : ◌≡◌ {A = ℕ} 0 1 = cc in absurd (omega arith)
+
 -- What the call of `standing` answered.
 pub stands : {C : Type 0} (b : Board C) (o : Option Laid) (l : Laid) → o ≡ standing b → o ≡ Some l → standing b ≡ Some l
 stands b o l asked answer = sym asked ∙ answer

@@ -10,7 +10,7 @@ use Rattle.plate.proofs.Sweeps.{three}
 
 module _ {C : Type 0} (host : C → C → C → C) (n : ℕ) where
   -- Steps over rings whose places agree.
-  stepped_same : (f g : ℕ → C) → ((k : ℕ) → k < n → f k ≡ g k) → (i : ℕ) → i < n → ring-step host n f i ≡ ring-step host n g i
+  pub stepped_same : (f g : ℕ → C) → ((k : ℕ) → k < n → f k ≡ g k) → (i : ℕ) → i < n → ring-step host n f i ≡ ring-step host n g i
   stepped_same f g same i h =
       three host (same (left_of n i) (left_below n i h)) (same i h) (same (right_of n i) (right_below n i h))
 

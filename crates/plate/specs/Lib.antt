@@ -1,10 +1,12 @@
 pub mod BeatCall
+pub mod BeatsCall
 pub mod Board
 pub mod Faults
 pub mod Healing
 pub mod History
 pub mod LayCall
 pub mod Layout
+pub mod Leads
 pub mod MapCall
 pub mod Members
 pub mod Painted
@@ -15,3 +17,4 @@ pub mod ReadCall
 pub mod ShadowCall
 pub mod StrikeCall
 pub mod Sweep
+pub mod Wounds

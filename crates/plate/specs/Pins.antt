@@ -7,6 +7,7 @@ use Rattle.plate.specs.declared.fault.MapFault.{MapFault}
 use Rattle.plate.specs.declared.fault.ReadFault.{ReadFault}
 use Rattle.plate.specs.declared.fault.ShadowFault.{ShadowFault}
 use Rattle.plate.specs.declared.fault.StrikeFault.{StrikeFault}
+use Rattle.plate.specs.BeatsCall.{BeatsAnswer}
 use Rattle.plate.specs.Board.{Board}
 use Rattle.plate.specs.Faults.{beat_fault, lay_fault, map_fault, read_fault, shadow_fault, strike_fault}
 use Rattle.plate.specs.History.{Call, Lay, Strike, Beat, Read, Map, Show, Outcome}
@@ -60,3 +61,9 @@ pub record AnswersPin {C : Type 0} (k : Members C) : Type 0 where
   pub read : OneAnswer k read_fault
   pub map : OneAnswer k map_fault
   pub shadow : OneAnswer k shadow_fault
+
+-- Two ends of as many beats of one host on one plate: the same answer and the same plate.
+abbrev pub BeatsPin : {C : Type 0} → Members C → Type 0
+BeatsPin {C} k =
+    (host : C → C → C → C) (m : ℕ) (r r' : Result (Unit {0}) BeatFault) (b b₁ b₂ : Board C) → BeatsAnswer k host m r b b₁
+    → BeatsAnswer k host m r' b b₂ → (r ≡ r') × (b₁ ≡ b₂)

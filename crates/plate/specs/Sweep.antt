@@ -49,3 +49,7 @@ PlanesVotes equal n side before j d x =
 abbrev pub RingSteps : {C : Type 0} → (host : C → C → C → C) (from n w : ℕ) → List C → Wanted C
 RingSteps host from n w before j d x =
     (i p : ℕ) → i < n → p < w → j ≡ i * w + p → x ≡ stepped host n (λ k. get_or before (from + (k * w + p)) d) i
+
+-- One step of the ring of the n cells at from.
+abbrev pub Steps : {C : Type 0} → (host : C → C → C → C) (from n : ℕ) → List C → Wanted C
+Steps host from n before j d x = x ≡ stepped host n (λ k. get_or before (from + k) d) j

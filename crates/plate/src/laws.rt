@@ -1,7 +1,7 @@
 // The healing laws of every plate, and that each outcome pins its end, as the contracts of functions that do nothing.
 ghost use Rattle.std.specs.Prelude.{◌≡◌, Decides};
 ghost use Rattle.plate.specs.Healing.{AlwaysHeals};
-ghost use Rattle.plate.specs.Pins.{OutcomesPin, AnswersPin, FaultsPin};
+ghost use Rattle.plate.specs.Pins.{OutcomesPin, AnswersPin, BeatsPin, FaultsPin};
 ghost use Rattle.plate.specs.Plates.{members};
 
 use crate::fault::{BeatFault, LayFault, MapFault, ReadFault, ShadowFault, StrikeFault};
@@ -18,6 +18,7 @@ pub fn always_heals<C: Kind>()
 pub fn outcomes_pin<C: Kind>()
     ensures ends { OutcomesPin (members C.eq C.byte_of C.cell_of) }
     ensures answers { AnswersPin (members C.eq C.byte_of C.cell_of) }
+    ensures beats { BeatsPin (members C.eq C.byte_of C.cell_of) }
     ensures faults { FaultsPin }
 {}
 

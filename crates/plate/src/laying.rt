@@ -8,7 +8,7 @@ use crate::shape::Shape;
 use toom::kind::Kind;
 
 // Writes a cell to `count` places from `from` on.
-fn paint<C: Kind>(cells: &mut [C], from: usize, count: usize, cell: C)
+pub(crate) fn paint<C: Kind>(cells: &mut [C], from: usize, count: usize, cell: C)
     requires { from + count ≤ length cells.old }
     ensures { Painted from count cell cells.old cells.new }
 {

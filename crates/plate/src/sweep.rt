@@ -1,10 +1,11 @@
 // Sweeps over a plate's cells: each reads one part of the memory and writes another.
-ghost use Rattle.std.specs.Prelude.{◌≡◌, ◌+◌, ◌*◌, ◌<◌, ◌≤◌, ◌⊎◌, length};
+ghost use Rattle.std.specs.Prelude.{◌≡◌, ◌+◌, ◌*◌, ◌<◌, ◌≤◌, ◌⊎◌, length, slice_index_or, slice_set};
 ghost use Rattle.toom.specs.Torus.{Side, next};
 ghost use Rattle.toom.specs.Vote.{vote_of};
+ghost use Rattle.hosts.specs.Ring.{right_of};
 ghost use Rattle.plate.specs.BeatCall.{CellsBeaten};
 ghost use Rattle.plate.specs.Layout.{size_of};
-ghost use Rattle.plate.specs.Sweep.{Apart, Swept, HostAnswers, InColumn, InRow, OnEdge, PlacesVoted, PlanesVotes, RingSteps};
+ghost use Rattle.plate.specs.Sweep.{Apart, Swept, HostAnswers, InColumn, InRow, OnEdge, PlacesVoted, PlanesVotes, RingSteps, Steps};
 
 use crate::shape::Shape;
 use hosts::host::Host;
@@ -12,7 +13,7 @@ use toom::kind::Kind;
 use toom::vote::vote;
 
 // The host that answers with the vote of north, east and own. A host and no closure: clauses name a host's function, its meaning.
-struct Ballot;
+pub(crate) struct Ballot;
 
 impl<C: Kind> Host<C> for Ballot {
     ghost meaning = { λ _. vote_of C.eq };
@@ -23,7 +24,7 @@ impl<C: Kind> Host<C> for Ballot {
 }
 
 // Writes the host's answers to the cells from a, b and c on.
-fn fill<C: Kind, H: Host<C>>(
+pub(crate) fn fill<C: Kind, H: Host<C>>(
     host: &H,
     cells: &mut [C],
     to: usize,
@@ -48,7 +49,7 @@ fn fill<C: Kind, H: Host<C>>(
 }
 
 // The row or column after one, round the torus.
-fn after(at: usize, side: usize) -> usize
+pub(crate) fn after(at: usize, side: usize) -> usize
     requires side { Side side }
     requires at { at < side }
     ensures { result ≡ next side at }
@@ -218,6 +219,68 @@ fn ring_step<C: Kind, H: Host<C>>(
         from,
         w,
     );
+}
+
+// The cell right of one on a ring.
+fn right(i: usize, n: usize) -> usize
+    requires { i < n }
+    ensures { result ≡ right_of n i }
+{
+    if i + 1 == n { 0 } else { i + 1 }
+}
+
+// Functions, so that their clauses say which cell is read, and what becomes of the whole slice.
+pub(crate) fn cell_at<C: Kind>(cells: &[C], at: usize) -> C
+    requires { at < length cells.now }
+    ensures { (d : C) → result ≡ slice_index_or cells.now at d }
+{
+    cells[at]
+}
+
+pub(crate) fn put<C: Kind>(cells: &mut [C], at: usize, cell: C)
+    requires { at < length cells.old }
+    ensures { cells.new ≡ slice_set cells.old at cell }
+{
+    cells[at] = cell;
+}
+
+// One step of a ring of single cells, each read once: a cell is the next one's left.
+fn step_short<C: Kind, H: Host<C>>(host: &H, cells: &mut [C], to: usize, from: usize, n: usize)
+    requires some { 1 ≤ n }
+    requires to { to + n ≤ length cells.old }
+    requires from { from + n ≤ length cells.old }
+    requires apart { Apart to from n }
+    ensures { Swept to n (Steps (H.meaning host.now) from n cells.old) cells.old cells.new }
+{
+    let mut left = cell_at(cells, from + (n - 1));
+    let mut own = cell_at(cells, from);
+    for i in 0..n {
+        let next = cell_at(cells, from + right(i, n));
+        put(cells, to + i, host.answer(left, own, next));
+        left = own;
+        own = next;
+    }
+}
+
+// One step of a ring of single cells.
+pub(crate) fn step_ring<C: Kind, H: Host<C>>(
+    host: &H,
+    cells: &mut [C],
+    to: usize,
+    from: usize,
+    n: usize,
+)
+    requires some { 1 ≤ n }
+    requires to { to + n ≤ length cells.old }
+    requires from { from + n ≤ length cells.old }
+    requires apart { Apart to from n }
+    ensures { Swept to n (Steps (H.meaning host.now) from n cells.old) cells.old cells.new }
+{
+    if n < SHORT {
+        step_short(host, cells, to, from, n);
+    } else {
+        ring_step(host, cells, to, from, n, 1);
+    }
 }
 
 // One beat of the cells: all planes are voted, the copies step from the votes, and the line moves to the earlier line and steps from it.

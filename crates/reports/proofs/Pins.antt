@@ -3,9 +3,7 @@ use Rattle.std.proofs.Common.{◌≡◌, ℕ, List, ◌++◌, length, drop, Ok, 
 use Rattle.plate.specs.Board.{Board}
 use Rattle.plate.specs.Members.{Members}
 use Rattle.plate.proofs.PinnedLaid.{one_stands}
-use Rattle.plate.proofs.Standing.{some_same}
-use Rattle.runs.proofs.Beating.{not_both}
-use Rattle.reports.specs.declared.fault.ReportFault.{ReportFault}
+use Rattle.plate.proofs.Standing.{not_both, some_same}
 use Rattle.reports.specs.declared.fault.ReportFault.TheVariants.{Bare, Output}
 use Rattle.reports.specs.Report.{report_of}
 use Rattle.reports.specs.ReportCall.{Reports, report_fault}

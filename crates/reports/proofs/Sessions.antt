@@ -5,8 +5,8 @@ use Rattle.plate.specs.History as history
 use Rattle.plate.specs.History.{Reached}
 use Rattle.plate.specs.Members.{Members}
 use Rattle.plate.proofs.Heals.{always_heals}
+use Rattle.plate.proofs.Leading.{reached_with}
 use Rattle.runs.specs.RunCall.{calls_of_run}
-use Rattle.runs.proofs.Leading.{reached_with}
 use Rattle.reports.specs.declared.fault.ReportFault.{ReportFault}
 use Rattle.reports.specs.ReportCall.{ReportAnswers}
 use Rattle.reports.specs.Session.{ComesTo, Own, Report, ReportGoesOn, Run, Session, SessionHeals, more, new, unrolled}

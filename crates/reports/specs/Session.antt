@@ -3,9 +3,9 @@ use Rattle.std.specs.Prelude.{◌≡◌, ℕ, Bool, List, [], ◌∷◌, None, O
 use Rattle.plate.specs.Board.{Board}
 use Rattle.plate.specs.Healing.{Healing}
 use Rattle.plate.specs.History.{Call, History, Outcome, Reached}
+use Rattle.plate.specs.Leads.{with_calls}
 use Rattle.plate.specs.Members.{Members}
 use Rattle.runs.specs.declared.fault.RunFault.{RunFault}
-use Rattle.runs.specs.Leads.{with_calls}
 use Rattle.runs.specs.RunCall.{calls_of_run}
 use Rattle.runs.specs.Runs.{RunAnswers}
 use Rattle.reports.specs.declared.fault.ReportFault.{ReportFault}

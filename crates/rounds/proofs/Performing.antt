@@ -4,9 +4,9 @@ use Rattle.std.proofs.lemmas.Bool.{cond-true, le-leb}
 use Rattle.plate.specs.Board.{Board}
 use Rattle.plate.specs.Healing.{Healing, Matches}
 use Rattle.plate.specs.History.{Call, Lay, Strike, Beat, Read, Map, Show, History, Reached, new}
+use Rattle.plate.specs.Leads.{with_calls}
 use Rattle.plate.specs.Members.{Members}
 use Rattle.plate.specs.Plain.{Plain, after_call, plain}
-use Rattle.runs.specs.Leads.{with_calls}
 use Rattle.reports.specs.ReportCall.{report_questions, report_questions_of}
 
 -- A new plate is bare.

@@ -5,15 +5,14 @@ use Rattle.hosts.specs.Refusal.{Refusal}
 use Rattle.plate.specs.declared.fault.LayFault.TheVariants as lays
 use Rattle.plate.specs.declared.fault.StrikeFault.TheVariants as strikes
 use Rattle.plate.specs.History as calls
+use Rattle.plate.specs.Leads.{Leads}
 use Rattle.plate.specs.Members.{Members}
+use Rattle.plate.proofs.PinnedCalls.{leads_pin}
 use Rattle.plate.proofs.PinnedFaults.{undone}
 use Rattle.plate.proofs.Pins.{outcomes_pin}
-use Rattle.plate.proofs.Standing.{some_same}
+use Rattle.plate.proofs.Standing.{not_both, some_same}
 use Rattle.runs.specs.declared.fault.RunFault.TheVariants as runs
-use Rattle.runs.specs.Leads.{Leads}
 use Rattle.runs.specs.RunCall.{calls_of_run}
-use Rattle.runs.proofs.Beating.{not_both}
-use Rattle.runs.proofs.RunPins.{leads_pin}
 use Rattle.reports.specs.declared.fault.ReportFault.TheVariants as reports
 use Rattle.reports.specs.ReportCall.{Reports}
 use Rattle.reports.proofs.Pins.{reports_pin}

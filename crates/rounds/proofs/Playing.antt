@@ -4,8 +4,8 @@ use mathlib.Core.Path.{transport}
 use Rattle.plate.specs.History.{Lay, new, more}
 use Rattle.plate.specs.Members.{Members}
 use Rattle.plate.proofs.Heals.{always_heals}
+use Rattle.plate.proofs.Leading.{reached_with}
 use Rattle.runs.specs.RunCall.{calls_of_run}
-use Rattle.runs.proofs.Leading.{reached_with}
 use Rattle.rounds.specs.declared.fault.PlayFault.{PlayFault}
 use Rattle.rounds.specs.declared.round.Round.{Round}
 use Rattle.rounds.specs.PlayCall.{Entrant, Performs, PlayAnswers, PlayHeals, play_questions, round_history}

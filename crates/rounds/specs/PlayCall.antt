@@ -7,8 +7,8 @@ use Rattle.plate.specs.Faults.{lay_fault}
 use Rattle.plate.specs.Healing.{Healing}
 use Rattle.plate.specs.History.{Lay, History, Outcome, Reached}
 use Rattle.plate.specs.LayCall.{lay_questions}
+use Rattle.plate.specs.Leads.{Leads, with_calls}
 use Rattle.plate.specs.Members.{Members}
-use Rattle.runs.specs.Leads.{Leads, with_calls}
 use Rattle.runs.specs.RunCall.{calls_of_run, shape_questions}
 use Rattle.runs.specs.RunFaults.{run_fault}
 use Rattle.reports.specs.ReportCall.{Reports, report_bytes, report_fault, report_refusal}

@@ -1,7 +1,5 @@
 pub mod Beating
 pub mod Checked
-pub mod Going
-pub mod Leading
 pub mod Passed
 pub mod Playing
 pub mod RunPins

@@ -1,27 +1,29 @@
 -- A run whose questions have passed, record by record: what it has led to, and that no strike and no beat of it is refused.
-use Rattle.std.proofs.Common.{◌≡◌, ℕ, ◌+◌, ◌-◌, ◌<◌, ◌≤◌, true, false, List, Some, None, Ok, Err, Option, Result, is_ok, sym, refl, ap, ◌∙◌, subst, arith, MatchResult}
+use Rattle.std.proofs.Common.{◌≡◌, ℕ, ◌+◌, ◌-◌, ◌<◌, ◌≤◌, true, false, List, Some, None, Ok, Err, Option, Result, is_ok, sym, refl, ap, ◌∙◌, subst, arith}
 use Rattle.std.specs.Iterator.Adapters.{enumerate_steps}
 use Rattle.std.specs.declared.iter.Enumerate.{Enumerate}
+use Rattle.plate.specs.declared.fault.BeatFault.{BeatFault}
 use Rattle.plate.specs.declared.fault.StrikeFault.{StrikeFault}
 use Rattle.plate.specs.declared.laid.Laid.{Laid}
+use Rattle.plate.specs.BeatsCall.{beats_questions}
 use Rattle.plate.specs.Board.{Board, side_of, standing}
-use Rattle.plate.specs.Faults.{strike_fault}
+use Rattle.plate.specs.Faults.{beat_fault, strike_fault}
 use Rattle.plate.specs.History.{Outcome}
+use Rattle.plate.specs.Leads.{Leads, beats_alone}
 use Rattle.plate.specs.Members.{Members}
 use Rattle.plate.specs.Plates.{Answers}
 use Rattle.plate.specs.StrikeCall.{strike_questions}
-use Rattle.runs.specs.declared.fault.RunFault.{RunFault}
+use Rattle.plate.proofs.Leading.{leads_on, leads_one}
+use Rattle.plate.proofs.Standing.{not_both}
 use Rattle.runs.specs.declared.record.Record.{Record}
 use Rattle.runs.specs.declared.script.Script.{Script}
-use Rattle.runs.specs.Leads.{LaidAs, Leads, Older, YoungFor, beats_alone}
 use Rattle.runs.specs.RunCall.{calls_of_run, calls_upto, number_before, run_questions, run_questions_of, shape_questions, strike_of}
 use Rattle.runs.specs.Script.{Yields, records_in, record_in}
-use Rattle.runs.proofs.Beating.{not_both, older_0}
+use Rattle.runs.proofs.Beating.{Older, beats_older, older_0}
 use Rattle.runs.proofs.Checked.{number_next}
-use Rattle.runs.proofs.Leading.{leads_on, leads_one}
 use Rattle.runs.proofs.Passed.{passed_age, passed_before, passed_last, passed_number, passed_order, passed_strike}
 use Rattle.runs.proofs.Scripts.{StandsIn, has_record, reads_record, stands_last, stands_next}
-use Rattle.runs.proofs.Shapes.{strike_passes, struck_on}
+use Rattle.runs.proofs.Shapes.{LaidAs, beats_pass, strike_passes, struck_on}
 use Rattle.runs.proofs.Timelines.{calls_beaten, calls_struck}
 
 -- m records have struck and `done` beats have passed since the start.
@@ -72,18 +74,14 @@ module _ {C : Type 0} {k : Members C} {host : C → C → C → C} {script : Lis
   laid_start = record { kept = asked.0; stands = asked.1; planes = refl; sides = refl; ages = refl }
 
   -- There is time for beats up to any number that is not past the run's.
-  young_enough : (to : ℕ) → done ≤ to → to ≤ beats → YoungFor (to - done) b
-  young_enough to from upto = record {
-    n = _;
-    side = _;
-    age = asked.0.age + done;
-    laid = u.played.older _ _ _ laid_start;
-    young = omega (arith, passed_age k.named _ _ _ beats script asked.2);
-  }
+  beats_fit : (to : ℕ) → done ≤ to → to ≤ beats → beats_questions b (to - done) ≡ None
+  beats_fit to from upto =
+      beats_pass _ _ (asked.0.age + done) b b (u.played.older _ _ _ laid_start) (to - done)
+      (omega (arith, passed_age k.named _ _ _ beats script asked.2))
 
-  played_beats : (to : ℕ) (b' : Board C) → done ≤ to → Leads k (beats_alone host (to - done)) b b' → Older (to - done) b b'
-      → Played k host script start e.count to b'
-  played_beats to b' from leads older =
+  played_beats : (to : ℕ) (b' : Board C) → done ≤ to → Leads k (beats_alone host (to - done)) b b' → Played k host script start e.count to b'
+  played_beats to b' from leads =
+      let older = beats_older k host (to - done) b b' leads in
       let sum : done + (to - done) ≡ to = omega arith in
       let calls = calls_beaten script host e.count done (to - done)
       (λ j h. subst (λ d. (record_in script j).number ≤ d) (sym u.number) (passed_before k.named _ _ _ beats script asked.2 e.count u.stands.within j h)) in
@@ -100,16 +98,14 @@ module _ {C : Type 0} {k : Members C} {host : C → C → C → C} {script : Lis
   done_upto = rw u.number (passed_last k.named _ _ _ beats script asked.2 e.count u.stands.within)
 
   -- After the last record the rest of the beats.
-  pub young_rest : YoungFor (beats - done) b
-  young_rest = young_enough beats done_upto (omega arith)
+  pub rest_unrefused : (f : BeatFault) → beats_questions b (beats - done) ≡ Some (beat_fault f) → ⊥
+  rest_unrefused f = not_both _ (beat_fault f) (beats_fit beats done_upto (omega arith))
 
-  pub all_played : (t : Enumerate Script) → Yields e.iter None t.iter → (b' : Board C) {X : Type 0} (answer : Result X RunFault)
-      → MatchResult answer (λ _. Leads k (beats_alone host (beats - done)) b b') (λ _. ⊥) → Older (beats - done) b b'
-      → MatchResult answer (λ _. Leads k (calls_of_run host script beats) start b') (λ _. ⊥)
-  all_played t none b' (Ok x) leads older =
+  pub all_played : (t : Enumerate Script) → Yields e.iter None t.iter → (b' : Board C) → Leads k (beats_alone host (beats - done)) b b'
+      → Leads k (calls_of_run host script beats) start b'
+  all_played t none b' leads =
       subst (λ i. Leads k (calls_upto host script i beats) start b') (stands_last script e t u.stands none)
-      (played_beats beats b' done_upto leads older).leads
-  all_played t none b' (Err f) never older = never
+      (played_beats beats b' done_upto leads).leads
 
   -- The reader gives record r.
   module _ (t : Enumerate Script) (i : ℕ) (r : Record) (step : enumerate_steps Yields e (Some (i, r)) t) where
@@ -125,14 +121,13 @@ module _ {C : Type 0} {k : Members C} {host : C → C → C → C} {script : Lis
     number_upto : r.number ≤ beats
     number_upto = rw is (passed_number k.named _ _ _ beats script asked.2 e.count within)
 
-    pub young_beats : YoungFor (r.number - done) b
-    young_beats = young_enough r.number number_from number_upto
+    pub beats_unrefused : (f : BeatFault) → beats_questions b (r.number - done) ≡ Some (beat_fault f) → ⊥
+    beats_unrefused f = not_both _ (beat_fault f) (beats_fit r.number number_from number_upto)
 
     -- The beats up to it, and then its strike.
-    module _ (b₁ b₂ : Board C) (leads : Leads k (beats_alone host (r.number - done)) b b₁) (older : Older (r.number - done) b b₁) {X : Type 0}
-        (answer : Result X StrikeFault) (answers : Answers k strike_fault (strike_of r) answer b₁ b₂) where
+    module _ (b₁ b₂ : Board C) (leads : Leads k (beats_alone host (r.number - done)) b b₁) {X : Type 0} (answer : Result X StrikeFault) (answers : Answers k strike_fault (strike_of r) answer b₁ b₂) where
       beaten : Played k host script start e.count r.number b₁
-      beaten = played_beats r.number b₁ number_from leads older
+      beaten = played_beats r.number b₁ number_from leads
 
       strike_fits : strike_questions k.named b₁ r.strike.plane r.strike.row r.strike.column r.strike.byte ≡ None
       strike_fits =

@@ -1,14 +1,22 @@
--- A laid plate under strikes and beats: it keeps its shape, and a beat makes it one older. While no question fails, neither is refused.
-use Rattle.std.proofs.Common.{◌≡◌, ℕ, ◌+◌, ◌<◌, ◌≤◌, Bool, length, Some, None, Option, sym, ap, ◌∙◌, ap₂, arith}
+-- A laid plate under strikes and beats: it keeps its shape, and each beat makes it one older. While no question fails, none of them is refused.
+use Rattle.std.proofs.Common.{◌≡◌, ℕ, ◌+◌, ◌≤◌, Bool, length, Some, None, Option, sym, ap, ◌∙◌, ap₂, arith}
 use Rattle.std.proofs.lemmas.List.{length-set}
-use Rattle.std.proofs.lemmas.Bool.{cond-true, lt-ltb}
+use Rattle.std.proofs.lemmas.Bool.{cond-true, le-leb}
 use Rattle.plate.specs.declared.laid.Laid.{Laid}
-use Rattle.plate.specs.BeatCall.{Beats, beat_questions, beat_questions_of}
+use Rattle.plate.specs.BeatCall.{Beats}
+use Rattle.plate.specs.BeatsCall.{beats_questions, beats_questions_of}
 use Rattle.plate.specs.Board.{Board, side_of, standing}
 use Rattle.plate.specs.Layout.{size_of}
 use Rattle.plate.specs.StrikeCall.{Strikes, place_questions, strike_questions, strike_questions_of}
 use Rattle.plate.proofs.Standing.{some_same, standing_holds, stands_with}
-use Rattle.runs.specs.Leads.{LaidAs}
+
+-- The plate is laid with this shape, at this age.
+pub record LaidAs {C : Type 0} (n side age : ℕ) (b : Board C) : Type 0 where
+  pub kept : Laid
+  pub stands : standing b ≡ Some kept
+  pub planes : kept.planes ≡ n
+  pub sides : side_of kept ≡ side
+  pub ages : kept.age ≡ age
 
 module _ {C : Type 0} (n side age : ℕ) (b b' : Board C) (laid : LaidAs n side age b) where
   -- What stood before is what was laid.
@@ -45,10 +53,10 @@ module _ {C : Type 0} (n side age : ℕ) (b b' : Board C) (laid : LaidAs n side 
       kept_on strikes.stood strikes.kept 0 strikes.standing_before strikes.stands strikes.planes strikes.shadow.sides
       (omega (arith, strikes.age)) (ap length strikes.cells ∙ length-set b.cells _ _)
 
-  pub beat_passes : age < 1048575 → beat_questions b ≡ None
-  beat_passes young =
-      ap beat_questions_of laid.stands
-      ∙ cond-true _ _ _ (lt-ltb laid.kept.age 1048575 (omega (arith, laid.ages, young)))
+  pub beats_pass : (m : ℕ) → age + m ≤ 1048575 → beats_questions b m ≡ None
+  beats_pass m young =
+      ap (λ o. beats_questions_of o m) laid.stands
+      ∙ cond-true _ _ _ (le-leb (laid.kept.age + m) 1048575 (omega (arith, laid.ages, young)))
 
   pub strike_passes : (named : ℕ → Option C) (plane row column byte : ℕ) → place_questions named n side plane row column byte ≡ None
       → strike_questions named b plane row column byte ≡ None

@@ -5,7 +5,7 @@ use Rattle.std.proofs.lemmas.List.{append_assoc, append-nil, map-append}
 use Rattle.std.proofs.lemmas.Bool.{eq-eqb, ne_eqb}
 use Rattle.std.specs.List.{range_with_len}
 use Rattle.plate.specs.History.{Call, Beat}
-use Rattle.runs.specs.Leads.{beats_alone}
+use Rattle.plate.specs.Leads.{beats_alone}
 use Rattle.runs.specs.RunCall.{calls_upto, strike_of, strikes_numbered}
 use Rattle.runs.specs.Script.{record_in}
 

@@ -1,5 +1,4 @@
 pub mod Bytes
-pub mod Leads
 pub mod RunCall
 pub mod RunFaults
 pub mod RunPins

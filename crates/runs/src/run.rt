@@ -1,8 +1,8 @@
 // The run: the strikes of a script among the beats of one host. `same` says that the plate's memory is still the one that was lent: of a plate
 // before and after, so that no field of it could say it. Host, script and beats are the caller's, and are handed on as they came.
 ghost use Rattle.std.specs.Prelude.{◌≡◌, None, MatchResult};
+ghost use Rattle.plate.specs.Leads.{Leads};
 ghost use Rattle.plate.specs.Plates.{board, members};
-ghost use Rattle.runs.specs.Leads.{Leads, Older, YoungFor, beats_alone};
 ghost use Rattle.runs.specs.RunCall.{calls_of_run, run_questions};
 ghost use Rattle.runs.specs.Runs.{RunAnswers, RunGoesOn};
 
@@ -12,23 +12,6 @@ use crate::script::Script;
 use hosts::host::Host;
 use plate::plate::Plate;
 use toom::kind::Kind;
-
-// Beats as often as told, on a plate that is young enough for it.
-fn beat_times<C: Kind, H: Host<C>>(
-    plate: &mut Plate<'_, C>,
-    host: &H,
-    times: u32,
-) -> Result<(), RunFault>
-    requires { YoungFor times (board plate.old) }
-    ensures outcome { MatchResult result (λ _. Leads (members C.eq C.byte_of C.cell_of) (beats_alone (H.meaning host.now) times) (board plate.old) (board plate.new)) (λ _. ⊥) }
-    ensures older { Older times (board plate.old) (board plate.new) }
-    ensures same { plate.new.cells.ghost_name ≡ plate.old.cells.ghost_name }
-{
-    for _ in 0..times {
-        plate.beat(host)?;
-    }
-    Ok(())
-}
 
 // The strikes and beats of a run whose questions have been asked.
 fn play<C: Kind, H: Host<C>>(
@@ -43,7 +26,7 @@ fn play<C: Kind, H: Host<C>>(
 {
     let mut done = 0;
     for (index, record) in Script::new(script).enumerate() {
-        beat_times(plate, host, record.number - done)?;
+        plate.beats(host, record.number - done)?;
         done = record.number;
         plate
             .strike(record.strike)
@@ -52,7 +35,8 @@ fn play<C: Kind, H: Host<C>>(
                 fault,
             })?;
     }
-    beat_times(plate, host, beats - done)
+    plate.beats(host, beats - done)?;
+    Ok(())
 }
 
 // Asks all its questions, and only then strikes and beats.

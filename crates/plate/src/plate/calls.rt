@@ -1,7 +1,8 @@
-// The calls on a plate. Each does what its outcome says; and whatever history of calls reached the plate before it, with this call it reaches the
-// plate after it, where the healing laws hold. `same` says of each that the memory is still the one that was lent: of a plate before and after,
-// so that no field of the plate could say it.
+// The calls on a plate. Each does what its outcome says; and whatever history of calls reached the plate before it, with this call (of `beats`, with
+// its beats) it reaches the plate after it, where the healing laws hold. `same` says of each that the memory is still the one that was lent: of a
+// plate before and after, so that no field of the plate could say it.
 ghost use Rattle.std.specs.Prelude.{◌≡◌, []};
+ghost use Rattle.plate.specs.BeatsCall.{BeatsAnswer, BeatsGoOn};
 ghost use Rattle.plate.specs.Board.{standing};
 ghost use Rattle.plate.specs.Faults.{lay_fault, strike_fault, beat_fault, read_fault, map_fault, shadow_fault};
 // `Strike` is the call in a clause; the struct is named by its path.
@@ -58,6 +59,17 @@ impl<'a, C: Kind> Plate<'a, C> {
         ensures same { self.new.cells.ghost_name ≡ self.old.cells.ghost_name }
     {
         self.try_beat(host)
+    }
+
+    // As many beats as told, asked for together before the first: what they leave is what so many single beats leave.
+    pub fn beats<H: Host<C>>(&mut self, host: &H, times: u32) -> Result<(), BeatFault>
+        ensures outcome { BeatsAnswer (members C.eq C.byte_of C.cell_of) (H.meaning host.now) times
+            result (board self.old) (board self.new) }
+        ensures heals { BeatsGoOn (members C.eq C.byte_of C.cell_of) (H.meaning host.now) times
+            result (board self.old) (board self.new) }
+        ensures same { self.new.cells.ghost_name ≡ self.old.cells.ghost_name }
+    {
+        self.try_beats(host, times)
     }
 
     // For each plane the byte of the cell that more than half of its copies hold.

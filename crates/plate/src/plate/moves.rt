@@ -1,6 +1,7 @@
 // What each call on a plate does: asks its questions in order, and only then writes. `same` as in `calls`: of a plate before and after, so that no
 // field could say it.
-ghost use Rattle.std.specs.Prelude.{◌≡◌, ◌<◌, length, slice_set};
+ghost use Rattle.std.specs.Prelude.{◌≡◌};
+ghost use Rattle.plate.specs.BeatsCall.{BeatsAnswer, VotedBy};
 ghost use Rattle.plate.specs.Faults.{lay_fault, strike_fault, beat_fault, read_fault, map_fault, shadow_fault};
 // `Strike` is the call in a clause; the struct is named by its path.
 ghost use Rattle.plate.specs.History.{Lay, Strike, Beat, Read, Map, Show};
@@ -10,12 +11,14 @@ use crate::checks::{check_lay, check_strike};
 use crate::fault::{BeatFault, LayFault, MapFault, ReadFault, ShadowFault, StrikeFault};
 use crate::laid::{Laid, MAX_AGE};
 use crate::laying::lay_cells;
+use crate::many::many_beats;
 use crate::mapping::write_map;
 use crate::plate::Plate;
 use crate::reading::{first_split, write_reading};
-use crate::sweep::beat_cells;
+use crate::sweep::{beat_cells, put};
 use hosts::host::Host;
 use toom::kind::Kind;
+use toom::shadow::Shadow;
 
 impl<'a, C: Kind> Plate<'a, C> {
     pub(crate) fn try_lay(
@@ -70,6 +73,22 @@ impl<'a, C: Kind> Plate<'a, C> {
         Ok(())
     }
 
+    pub(crate) fn try_beats<H: Host<C>>(&mut self, host: &H, times: u32) -> Result<(), BeatFault>
+        ensures outcome { BeatsAnswer (members C.eq C.byte_of C.cell_of) (H.meaning host.now) times
+            result (board self.old) (board self.new) }
+        ensures same { self.new.cells.ghost_name ≡ self.old.cells.ghost_name }
+    {
+        let mut laid = self.standing().ok_or(BeatFault::Bare)?;
+        if times > MAX_AGE - laid.age {
+            return Err(BeatFault::Age);
+        }
+        many_beats(host, self.cells, laid.shape(), times);
+        vote_often(&mut laid.shadow, times);
+        laid.age += times;
+        self.laid = Some(laid);
+        Ok(())
+    }
+
     pub(crate) fn try_read(&self, out: &mut [u8]) -> Result<(), ReadFault>
         ensures { Answers (members C.eq C.byte_of C.cell_of) read_fault (Read out.old out.new) result (board self.now) (board self.now) }
     {
@@ -106,10 +125,15 @@ impl<'a, C: Kind> Plate<'a, C> {
     }
 }
 
-// A function, so that its clause says what becomes of the whole slice.
-fn put<C: Kind>(cells: &mut [C], at: usize, cell: C)
-    requires { at < length cells.old }
-    ensures { cells.new ≡ slice_set cells.old at cell }
+// Votes a shadow as often as told. Once a vote leaves it as it is, so do all that follow.
+fn vote_often(shadow: &mut Shadow, times: u32)
+    ensures { VotedBy times shadow.old shadow.new }
 {
-    cells[at] = cell;
+    for _ in 0..times {
+        let before = *shadow;
+        shadow.vote();
+        if *shadow == before {
+            return;
+        }
+    }
 }

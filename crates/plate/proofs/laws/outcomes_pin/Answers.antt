@@ -1,5 +1,6 @@
 use Rattle.plate.specs.Plates.{members}
 use Rattle.plate.proofs.PinnedAnswers.{answers_pin}
+use Rattle.plate.proofs.PinnedCalls.{beats_pin}
 use Rattle.plate.proofs.PinnedFaults.{faults_pin}
 use Rattle.plate.proofs.Pins.{outcomes_pin}
 use Rattle.plate.proofs.laws.outcomes_pin.Goals as goal
@@ -7,4 +8,4 @@ use Rattle.plate.proofs.laws.outcomes_pin.Goals as goal
 pub returns : goal.returns
 returns g c =
     let k = members g.C.PartialEq.eq g.C.Kind.byte_of g.C.Kind.cell_of in
-    record { ends = outcomes_pin k; answers = answers_pin k; faults = faults_pin }
+    record { ends = outcomes_pin k; answers = answers_pin k; beats = beats_pin k; faults = faults_pin }

@@ -1,7 +1,7 @@
 use Rattle.std.proofs.Common.{◌≡◌, true, [], ◌∷◌, length, None, subst, rules}
 use Rattle.plate.specs.History.{Lay, Outcome}
 use Rattle.plate.specs.Plates.{board, members}
-use Rattle.runs.proofs.Beating.{not_both}
+use Rattle.plate.proofs.Standing.{not_both}
 use Rattle.runs.specs.RunCall.{calls_of_run}
 use Rattle.reports.specs.ReportCall.{report_questions}
 use Rattle.rounds.proofs.Performing.{new_bare, report_passes}

@@ -1,6 +1,6 @@
 use Rattle.std.proofs.Common.{refl, ◌∙◌, rules}
 use Rattle.plate.specs.Plates.{board, members}
-use Rattle.runs.proofs.Playing.{all_played, done_upto, number_from, strike_unrefused, underway_first, underway_next, young_beats, young_rest}
+use Rattle.runs.proofs.Playing.{all_played, beats_unrefused, done_upto, number_from, rest_unrefused, strike_unrefused, underway_first, underway_next}
 use Rattle.runs.proofs.run.play.Goals as goal
 
 pub loop-index-init : goal.loop-index-init
@@ -15,33 +15,35 @@ pub overflow_sub-record : goal.overflow_sub-record
 overflow_sub-record g c =
     number_from c.loop-index.invariant.underway c.next.new.self c.in-Some.index c.in-Some.record c.in-Some.ensures.steps
 
-pub beat_times-requires : goal.beat_times-requires
-beat_times-requires g c =
-    young_beats c.loop-index.invariant.underway c.next.new.self c.in-Some.index c.in-Some.record c.in-Some.ensures.steps
-
 pub loop-index-preserved : goal.loop-index-preserved
 loop-index-preserved g c = record {
   underway =
       underway_next c.loop-index.invariant.underway c.next.new.self c.in-Some.index c.in-Some.record c.in-Some.ensures.steps
-      (board c.beat_times.new.plate) (board c.strike.new.self) c.in_ok-beat_times.ensures.outcome c.beat_times.ensures.older
+      (board c.beats.new.self) (board c.strike.new.self) c.in_ok-beats.ensures.outcome.1
       c.strike.result c.strike.ensures.outcome;
-  same = c.strike.ensures.same ∙ c.beat_times.ensures.same ∙ c.loop-index.invariant.same;
+  same = c.strike.ensures.same ∙ c.beats.ensures.same ∙ c.loop-index.invariant.same;
 }
 
 pub returns-in_err-map_err-clause-outcome : goal.returns-in_err-map_err-clause-outcome
 returns-in_err-map_err-clause-outcome g c =
     absurd
     (strike_unrefused c.loop-index.invariant.underway c.next.new.self c.in-Some.index c.in-Some.record c.in-Some.ensures.steps
-    (board c.beat_times.new.plate) (board c.strike.new.self) c.in_ok-beat_times.ensures.outcome c.beat_times.ensures.older
+    (board c.beats.new.self) (board c.strike.new.self) c.in_ok-beats.ensures.outcome.1
     c.strike.result c.strike.ensures.outcome c.in_err-map_err.ensures.variant)
 
 pub overflow_sub-beats : goal.overflow_sub-beats
 overflow_sub-beats g c = done_upto c.loop-index.invariant.underway
 
-pub beat_times-requires-2 : goal.beat_times-requires-2
-beat_times-requires-2 g c = young_rest c.loop-index.invariant.underway
+pub returns-in_err-beats-clause-outcome : goal.returns-in_err-beats-clause-outcome
+returns-in_err-beats-clause-outcome g c =
+    absurd
+    (beats_unrefused c.loop-index.invariant.underway c.next.new.self c.in-Some.index c.in-Some.record c.in-Some.ensures.steps _
+    c.in_err-beats.ensures.outcome.0)
+
+pub returns-in_err-beats-2-clause-outcome : goal.returns-in_err-beats-2-clause-outcome
+returns-in_err-beats-2-clause-outcome g c = absurd (rest_unrefused c.loop-index.invariant.underway _ c.in_err-beats-2.ensures.outcome.0)
 
 pub returns-clause-outcome : goal.returns-clause-outcome
 returns-clause-outcome g c =
-    all_played c.loop-index.invariant.underway c.next.new.self c.in-None.ensures.steps.0 (board c.beat_times-2.new.plate)
-    c.beat_times-2.result c.beat_times-2.ensures.outcome c.beat_times-2.ensures.older
+    all_played c.loop-index.invariant.underway c.next.new.self c.in-None.ensures.steps.0 (board c.beats-2.new.self)
+    c.in_ok-beats-2.ensures.outcome.1

@@ -3,7 +3,7 @@ use Rattle.std.proofs.Common.{true, List, [], ◌∷◌, ◌++◌, sym, refl, su
 use Rattle.plate.specs.Board.{Board}
 use Rattle.plate.specs.History.{Call, History, Outcome, Reached, more}
 use Rattle.plate.specs.Members.{Members}
-use Rattle.runs.specs.Leads.{Leads, with_calls}
+use Rattle.plate.specs.Leads.{Leads, with_calls}
 
 module _ {C : Type 0} (k : Members C) where
   pub leads_on : (calls later : List (Call C)) (a b c : Board C) → Leads k calls a b → Leads k later b c → Leads k (calls ++ later) a c

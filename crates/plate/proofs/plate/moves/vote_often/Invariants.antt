@@ -1,0 +1,5 @@
+use Rattle.plate.specs.BeatsCall.{VotedBy}
+use Rattle.plate.proofs.plate.moves.vote_often.Given as goal
+
+abbrev pub invariant-loop : goal.invariant-loop
+invariant-loop l = VotedBy l.counter l.initial.shadow l.shadow

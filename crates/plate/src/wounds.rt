@@ -1,0 +1,101 @@
+// The wounds of a plate's cells: the places where a copy differs from its cell of the line. They are kept as a shadow, a set of places.
+ghost use Rattle.std.specs.Prelude.{◌≡◌, ℕ, ◌+◌, ◌*◌, ◌<◌, ◌≤◌, true, false, length, slice_index_or, IfSome};
+ghost use Rattle.toom.specs.Shadow.{marks};
+ghost use Rattle.plate.specs.Layout.{size_of};
+ghost use Rattle.plate.specs.Wounds.{LineOutside};
+
+use crate::shape::Shape;
+use crate::sweep::cell_at;
+use toom::kind::Kind;
+use toom::shadow::Shadow;
+
+// Whether a place of the torus is a wound.
+pub(crate) fn is_wound(wounds: &Shadow, row: usize, column: usize) -> bool
+    requires row { row < wounds.now.side }
+    requires column { column < wounds.now.side }
+    ensures { result ≡ marks wounds.now row column }
+{
+    wounds.holds(row, column).unwrap_or(false)
+}
+
+// To begin a strand takes as long as so many cells of a sweep over all planes. Measured with bits, whose cells take least.
+const START: usize = 64;
+
+// With more wounds than this, to beat all cells takes less time.
+pub(crate) fn most_wounds(shape: Shape) -> usize {
+    shape.copies() / (shape.planes + START)
+}
+
+// Whether all cells are this one. It reads them all, for then many are compared at once.
+fn are_all<C: Kind>(cells: &[C], cell: C) -> bool
+    ensures { result ≡ true → (k : ℕ) (d : C) → k < length cells.now
+        → slice_index_or cells.now k d ≡ cell }
+{
+    let mut same = true;
+    for x in cells {
+        if *x != cell {
+            same = false;
+        }
+    }
+    same
+}
+
+// Adds the places of a row whose cells are not this one.
+fn add_row<C: Kind>(wounds: &mut Shadow, row: usize, cells: &[C], cell: C)
+    requires row { row < wounds.old.side }
+    requires cells { wounds.old.side ≤ length cells.now }
+    ensures side { wounds.new.side ≡ wounds.old.side }
+    ensures stay { (r c : ℕ) → r < wounds.old.side → c < wounds.old.side
+        → marks wounds.new r c ≡ false → marks wounds.old r c ≡ false }
+    ensures clear { (c : ℕ) (d : C) → c < wounds.old.side → marks wounds.new row c ≡ false
+        → slice_index_or cells.now c d ≡ cell }
+{
+    for column in 0..wounds.side() {
+        if cell_at(cells, column) != cell {
+            let _ = wounds.add(row, column);
+        }
+    }
+}
+
+// Adds the places of a plane whose cells are not this one.
+fn add_plane<C: Kind>(wounds: &mut Shadow, plane: &[C], cell: C)
+    requires { wounds.old.side * wounds.old.side ≤ length plane.now }
+    ensures side { wounds.new.side ≡ wounds.old.side }
+    ensures stay { (r c : ℕ) → r < wounds.old.side → c < wounds.old.side
+        → marks wounds.new r c ≡ false → marks wounds.old r c ≡ false }
+    ensures clear { (r c : ℕ) (d : C) → r < wounds.old.side → c < wounds.old.side
+        → marks wounds.new r c ≡ false
+        → slice_index_or plane.now (r * wounds.old.side + c) d ≡ cell }
+{
+    if are_all(plane, cell) {
+        return;
+    }
+    let side = wounds.side();
+    for row in 0..side {
+        add_row(wounds, row, &plane[row * side..row * side + side], cell);
+    }
+}
+
+// The wounds of the cells, the places where a copy is not its plane's cell of the line; or none where they are more than `most`.
+pub(crate) fn wounds_of<C: Kind>(cells: &[C], shape: Shape, most: usize) -> Option<Shadow>
+    requires { size_of shape.planes shape.side ≤ length cells.now }
+    ensures side { IfSome result (λ s. s.side ≡ shape.side) }
+    ensures outside { IfSome result
+        (λ s. LineOutside (marks s) shape.planes shape.side cells.now) }
+{
+    let area = shape.area();
+    let line = 2 * shape.copies();
+    let mut wounds = Shadow::empty(shape.side)?;
+    for i in 0..shape.planes {
+        let plane = i * area;
+        add_plane(
+            &mut wounds,
+            &cells[plane..plane + area],
+            cell_at(cells, line + i),
+        );
+        if wounds.count() > most {
+            return None;
+        }
+    }
+    Some(wounds)
+}
