@@ -24,6 +24,12 @@ fn a_bare_plate_refuses_all_but_lay(rt: HostRuntime) {
     let mut plate = Plate::new(&mut cells);
     assert_eq!(rt; plate.strike(strike(0, 0, 0, 9)), Err(StrikeFault::Bare));
     assert_eq!(rt; plate.beat(&Elementary { rule: 0 }), Err(BeatFault::Bare));
+    for times in [0, u32::MAX] {
+        assert_eq!(rt;
+            plate.beats(&Elementary { rule: 0 }, times),
+            Err(BeatFault::Bare)
+        );
+    }
     assert_eq!(rt; plate.read(&mut []), Err(ReadFault::Bare));
     assert_eq!(rt; plate.map(&mut []), Err(MapFault::Bare));
     assert_eq!(rt; plate.shadow(&mut []), Err(ShadowFault::Bare));
@@ -113,6 +119,24 @@ fn the_greatest_age(rt: HostRuntime) -> Result<(), Fail> {
         plate.beat(&host)?;
     }
     assert_eq!(rt; plate.beat(&host), Err(BeatFault::Age));
+    let mut out = [0];
+    plate.read(&mut out)?;
+    assert_eq!(rt; out, [1]);
+    Ok(())
+}
+
+// The same in one call: the greatest age leaves no beat, and a call of none.
+#[test]
+fn the_greatest_age_at_once(rt: HostRuntime) -> Result<(), Fail> {
+    let mut cells = [Bit::Zero; 10];
+    let mut plate = Plate::new(&mut cells);
+    plate.lay(1, 2, &[1])?;
+    let host = Elementary { rule: 0x80 };
+    assert_eq!(rt; plate.beats(&host, 1_048_576), Err(BeatFault::Age));
+    assert_eq!(rt; plate.beats(&host, 1_048_575), Ok(()));
+    assert_eq!(rt; plate.beats(&host, 1), Err(BeatFault::Age));
+    assert_eq!(rt; plate.beats(&host, 0), Ok(()));
+    assert_eq!(rt; plate.standing().map(|laid| laid.age), Some(1_048_575));
     let mut out = [0];
     plate.read(&mut out)?;
     assert_eq!(rt; out, [1]);

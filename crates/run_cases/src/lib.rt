@@ -1,10 +1,14 @@
-// Scripts and runs, tested: the reader, every refusal, a run against its strikes and beats one by one, and long runs.
+// Scripts and runs, tested: the reader, every refusal, a run against its strikes and beats one by one, long runs, and many beats at once.
 #![tactic(auto)]
 
+#[cfg(test)]
+mod at_once;
 #[cfg(test)]
 mod long_runs;
 #[cfg(test)]
 mod look;
+#[cfg(test)]
+mod many_beats;
 #[cfg(test)]
 mod records;
 #[cfg(test)]
