@@ -1,13 +1,15 @@
 #!/usr/bin/env python3
-"""keep.py SECOND FOLDER KEPT: writes the file KEPT of 400 rounds and the replies of the program SECOND to them.
+"""keep.py SECOND FOLDER LONG KEPT: writes the file KEPT of 440 rounds and the replies of the program SECOND to them.
 
-The rounds are the shipped ones, rounds/*.round, and some of FOLDER, which generate.py made. The same rounds and the
-same SECOND give the same file. SECOND is the second implementation: the proved program is never asked for a reply.
-docs/FORMATS.md has the format. What is kept was made, at the top of the repository, by
+The first 400 rounds are the shipped ones, rounds/*.round, and some of FOLDER, which generate.py made; the other 40 are
+some of LONG, which generate.py --long made. The same rounds and the same SECOND give the same file. SECOND is the second
+implementation: the proved program is never asked for a reply. docs/FORMATS.md has the format. What is kept was made, at
+the top of the repository, by
 
     cc -O2 -o /tmp/second bench/second.c
     bench/generate.py 2400 1 /tmp/generated
-    bench/keep.py /tmp/second /tmp/generated crates/kept/data/rounds.kept
+    bench/generate.py --long 156 1 /tmp/long
+    bench/keep.py /tmp/second /tmp/generated /tmp/long crates/kept/data/rounds.kept
 
 Printed is a line for each round, with its index from 0, its length, that of its reply, its name and the ending of its
 reply. Then come the number of rounds with each ending, and the sizes.
@@ -17,7 +19,9 @@ import os
 import subprocess
 import sys
 
-ROUNDS = 400
+ROUNDS = 400          # but for the long ones
+LONG_ROUNDS = 40
+LEAST_BEATS = 1_000   # of a long round
 MOST_BYTES = 600_000  # of the kept file
 LARGE = 30_000        # bytes of a round and its reply from which on one of a scenario is enough
 SMALL = 1_200         # bytes of those that fill the file
@@ -92,16 +96,33 @@ def choose(rounds):
     return [rounds[i] for i in sorted(chosen)]
 
 
+def choose_long(rounds):
+    """Of those that are not large, the round with the longest reply; and of each way to wound at each size the first, of the
+    two kinds by turns. All in the order of `rounds`."""
+    small = [round_ for round_ in rounds if round_.size() < LARGE]
+    chosen, sizes = {max(small, key=lambda round_: len(round_.reply))}, set()
+    for round_ in small:
+        _, wound, kind, size = round_.scenario.split("-")
+        if (wound, size) not in sizes and int(kind) == len(sizes) % 2:
+            sizes.add((wound, size))
+            chosen.add(round_)
+    return [round_ for round_ in small if round_ in chosen]
+
+
 def main():
-    if len(sys.argv) != 4:
-        sys.exit("keep.py SECOND FOLDER KEPT")
-    second, folder, kept = os.path.abspath(sys.argv[1]), sys.argv[2], sys.argv[3]
+    if len(sys.argv) != 5:
+        sys.exit("keep.py SECOND FOLDER LONG KEPT")
+    second, (folder, long_folder, kept) = os.path.abspath(sys.argv[1]), sys.argv[2:]
     rounds = choose(read(second, SHIPPED) + read(second, folder))
+    long_rounds = choose_long(read(second, long_folder))
+    counts = len(rounds), len(long_rounds)
+    short = [round_.name for round_ in long_rounds if round_.age() < LEAST_BEATS]
+    rounds += long_rounds
     endings = collections.Counter(round_.ending() for round_ in rounds)
     missing = [number for number in NUMBERS if f"refused {number}" not in endings]
     packed = b"".join(round_.packed() for round_ in rounds)
-    if len(rounds) != ROUNDS or missing or len(packed) > MOST_BYTES:
-        sys.exit(f"keep.py: {len(rounds)} rounds, {len(packed)} bytes, no refusal {missing}: nothing is written")
+    if counts != (ROUNDS, LONG_ROUNDS) or short or missing or len(packed) > MOST_BYTES:
+        sys.exit(f"keep.py: {counts} rounds, {len(packed)} bytes, not long {short}, no refusal {missing}: nothing is written")
     with open(kept, "wb") as file:
         file.write(packed)
     for i, round_ in enumerate(rounds):
