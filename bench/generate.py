@@ -1,8 +1,9 @@
 #!/usr/bin/env python3
-"""generate.py COUNT SEED FOLDER: writes COUNT round files into FOLDER, in order and damaged.
+"""generate.py [--long] COUNT SEED FOLDER: writes COUNT round files into FOLDER, in order and damaged.
 
 The same COUNT and SEED give the same files. File i has scenario i mod (number of scenarios), so that every scenario
-comes once in that many files. The bytes are those of docs/FORMATS.md; the damages go by the numbers of
+comes once in that many files. With --long all are in order, and have from 1,000 to 20,000 beats, with wounds that last,
+grow or heal. The bytes are those of docs/FORMATS.md; the damages go by the numbers of
 docs/REFUSALS.md, but nothing here says what the reply has to be.
 """
 import os
@@ -182,6 +183,8 @@ def places_of(rng, side, pattern):
         return [(r, (a - r) % side) for r in range(side)]
     if pattern == "diagonal":
         return [(r, (a + r) % side) for r in range(side)]
+    if pattern == "cross":
+        return [(a, c) for c in range(side)] + [(r, b) for r in range(side) if r != a]
     if pattern == "edge":
         ends = [0, side - 1]
         return [(rng.choice(ends), rng.randrange(side)) if rng.randrange(2) else (rng.randrange(side), rng.choice(ends))
@@ -826,6 +829,142 @@ def work_of(file):
     return copies * beats if copies <= MOST_COPIES else 0
 
 
+# ------------------------------------------------------------------ long rounds
+# Each takes a round with an empty script and wounds it. Rows and columns last, antidiagonals move for ever, a cross of a row and a
+# column grows until all is wounded, and all else heals, if nothing strikes it again.
+
+LONG_WORK = 60_000_000  # copies times beats
+LINES = ["row", "column", "antidiagonal"]
+
+
+def long_shape(rng, size):
+    if size == "small":
+        return rng.randint(2, 6), rng.choice([1, 2, 3, rng.randint(1, 12)])
+    if size == "middle":
+        side = rng.randint(6, 31)
+        return side, rng.randint(1, min(64, MOST_COPIES // side ** 2))
+    side = rng.choice([2, 2, 3, 4, 8, 8, 16, 32, 33, 48, 63, 64, 64])
+    return side, min(4096, MOST_COPIES // side ** 2) - rng.choice([0, 0, 0, 1]) * (side < 64)
+
+
+def long_start(rng, kind, size):
+    """A round with an empty script, and one in four with a host that leaves the tape as it is."""
+    side, planes = long_shape(rng, size)
+    host, style = random_host(rng, kind), None
+    if rng.randrange(4) == 0:
+        host, style = (bytes([204]), None) if kind == 0 else (host, "blank")
+    beats = rng.choice([1000, 1023, 1024, 1025, 2046, 2047, 2048, 4096, rng.randint(1000, 20000), 20000])
+    round_ = start(rng, kind, side, planes, 0, host, style)
+    round_.beats = max(1000, min(beats, LONG_WORK // (planes * side * side)))
+    return round_
+
+
+def hit(rng, round_, number, pattern, way="one"):
+    """Strikes a pattern, mostly in one plane, with one cell that differs from the tape's, with any cells, or with the tape's own."""
+    places = places_of(rng, round_.side, pattern)
+    count = round_.planes if rng.randrange(8) == 0 else rng.choice([1, 1, 2])
+    for plane in rng.sample(range(round_.planes), min(count, round_.planes)):
+        own = round_.tape[plane]
+        one = 1 - own if round_.kind == 0 else own ^ rng.randint(1, 255)
+        for row, column in places:
+            byte = {"one": one, "own": own, "any": random_cell(rng, round_.kind, round_.host)}[way]
+            round_.records.append(Record(number, plane, row, column, byte))
+
+
+def numbers(rng, round_, count):
+    return [rng.randint(0, round_.beats) for _ in range(count)]
+
+
+def long_line(pattern):
+    def wound(rng, round_):
+        hit(rng, round_, rng.choice([0, 0, rng.randint(1, 600)]), pattern, rng.choice(["one", "one", "any"]))
+        for number in numbers(rng, round_, rng.choice([0, 0, 3, 40])):
+            hit(rng, round_, number, "random", "any")
+    return wound
+
+
+def long_lines(rng, round_):
+    """Several lines, often at once, until many places are wounded."""
+    for _ in range(rng.randint(2, 9)):
+        number = rng.choice([0, 500, rng.randint(0, round_.beats)])
+        hit(rng, round_, number, rng.choice(LINES))
+
+
+def long_triangles(rng, round_):
+    for number in numbers(rng, round_, rng.randint(1, 8)):
+        hit(rng, round_, number, "triangle", rng.choice(["one", "any"]))
+
+
+def long_scattered(rng, round_):
+    for number in numbers(rng, round_, rng.choice([1, 20, 300, 2000])):
+        round_.records.append(Record(number, rng.randrange(round_.planes), rng.randrange(round_.side),
+                                     rng.randrange(round_.side), random_cell(rng, round_.kind, round_.host)))
+
+
+def long_ends(rng, round_):
+    """Strikes before the first beat, and after the last one and the one before it."""
+    for number in (0, round_.beats - 1, round_.beats):
+        hit(rng, round_, number, rng.choice(PATTERNS + ["cross"]), rng.choice(["one", "any"]))
+
+
+def long_unchanged(rng, round_):
+    """Lines and other patterns of strikes with the tape's own cells, at first, and later where the host leaves them."""
+    for number in [0] + numbers(rng, round_, 3):
+        hit(rng, round_, number, rng.choice(LINES + ["random", "square", "all"]), "own")
+
+
+def long_crowded(rng, round_):
+    """Many strikes of one number."""
+    for number in numbers(rng, round_, rng.randint(1, 2)):
+        for _ in range(rng.choice([50, 500, 3000])):
+            round_.records.append(Record(number, rng.randrange(round_.planes), rng.randrange(round_.side),
+                                         rng.randrange(round_.side), random_cell(rng, round_.kind, round_.host)))
+
+
+def long_mended(rng, round_):
+    """A line, and later one of its places with the tape's cell: where the host leaves the tape, the line heals from there."""
+    first = rng.randint(0, 400)
+    hit(rng, round_, first, rng.choice(LINES))
+    record = rng.choice(round_.records)
+    later = rng.randint(first, round_.beats)
+    for plane in range(min(round_.planes, 16)):
+        round_.records.append(Record(later, plane, record.row, record.column, round_.tape[plane]))
+
+
+def long_halves(rng, round_):
+    """A row in two halves: the second comes with the first, or one beat or some beats later."""
+    number = rng.randint(0, 900)
+    hit(rng, round_, number, "row")
+    for record in rng.sample(round_.records, len(round_.records) // 2):
+        record.number += rng.choice([0, 1, 2])
+
+
+def long_dense(rng, round_):
+    """So many wounds that hardly a place is left, and now and then more."""
+    for number in (0, rng.randint(0, round_.beats)):
+        hit(rng, round_, number, rng.choice(["all", "square", "cross"]), rng.choice(["one", "any"]))
+        hit(rng, round_, number, rng.choice(LINES), "any")
+
+
+def long_scenario(wound, kind, size):
+    def scenario(rng):
+        round_ = long_start(rng, kind, size)
+        wound(rng, round_)
+        round_.records.sort(key=lambda record: record.number)
+        fit(round_)
+        return round_
+    return scenario
+
+
+def long_scenarios():
+    wounds = [(pattern, long_line(pattern)) for pattern in LINES + ["cross"]]
+    wounds += [(wound.__name__[5:], wound) for wound in (
+        long_lines, long_triangles, long_scattered, long_ends, long_unchanged, long_crowded, long_mended, long_halves,
+        long_dense)]
+    return [(f"long-{name}-{kind}-{size}", long_scenario(wound, kind, size))
+            for name, wound in wounds for size in ("small", "middle", "large") for kind in (0, 1)]
+
+
 # ------------------------------------------------------------------ all scenarios
 
 def scenarios():
@@ -850,11 +989,13 @@ def scenarios():
 
 
 def main():
-    if len(sys.argv) != 4:
-        sys.exit("generate.py COUNT SEED FOLDER")
-    count, seed, folder = int(sys.argv[1]), int(sys.argv[2]), sys.argv[3]
+    is_long = sys.argv[1:2] == ["--long"]
+    words = sys.argv[2:] if is_long else sys.argv[1:]
+    if len(words) != 3:
+        sys.exit("generate.py [--long] COUNT SEED FOLDER")
+    count, seed, folder = int(words[0]), int(words[1]), words[2]
     os.makedirs(folder, exist_ok=True)
-    every = scenarios()
+    every = long_scenarios() if is_long else scenarios()
     for i in range(count):
         name, scenario = every[i % len(every)]
         made = scenario(random.Random(f"{seed} {i}"))
