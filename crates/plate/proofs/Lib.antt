@@ -26,9 +26,12 @@ pub mod Places
 pub mod PlaneParts
 pub mod Quiet
 pub mod Readings
+pub mod RepeatedLine
+pub mod RestingBeats
 pub mod Rings
 pub mod SettledPlaces
 pub mod ShortRings
+pub mod SoundPlaces
 pub mod Standing
 pub mod Strikes
 pub mod Sweeps

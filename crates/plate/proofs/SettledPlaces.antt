@@ -1,10 +1,13 @@
--- The planes written whole, block by block.
-use Rattle.std.proofs.Common.{◌≡◌, ℕ, ◌+◌, ◌*◌, ◌≤◌, List, get_or, ap, ◌∙◌, subst, inl, inr, add-mul, one-mul, arith}
-use Rattle.std.proofs.lemmas.Bool.{cases_lt}
+-- The planes written whole, block by block, and the copies of some places over them.
+use Rattle.std.proofs.Common.{◌≡◌, ℕ, ◌+◌, ◌*◌, ◌<◌, ◌≤◌, ◌⊎◌, Bool, List, get_or, sym, refl, ap, ◌∙◌, subst, inl, inr, add-mul, one-mul, arith}
+use Rattle.std.proofs.lemmas.Bool.{both_ways, cases_Bool, cases_lt, cond-false, cond-true}
+use Rattle.toom.specs.Torus.{Plane}
+use Rattle.plate.specs.Layout.{copy_at}
 use Rattle.plate.specs.Painted.{Painted}
 use Rattle.plate.specs.Sweep.{Swept}
-use Rattle.plate.specs.Wounds.{BlocksOf}
-use Rattle.plate.proofs.Grids.{one_place}
+use Rattle.plate.specs.Wounds.{BlocksOf, CopiesSettled, Marked, PlanesWritten, StrandsSettled, kept_at}
+use Rattle.plate.proofs.Grids.{one_place, place_in}
+use Rattle.plate.proofs.SweptPlaces.{copy_in}
 use Rattle.plate.proofs.Sweeps.{swept_join}
 
 -- One block more.
@@ -24,3 +27,28 @@ blocks_more base from i w old mid new cell apart cell-is a b =
     (λ j d x hj is k p hk hp at.
     let same = one_place w i j k p hj hp at in
     is ∙ cell-is d ∙ ap (λ m. get_or old (from + m) d) same.0))
+
+-- Writing copies leaves the strands.
+pub kept_stays : {C : Type 0} (n side : ℕ) (old mid : List C)
+    → ((k : ℕ) (d : C) → (k < 0) ⊎ (0 + n * (side * side) ≤ k) → get_or mid k d ≡ get_or old k d)
+    → (i r c : ℕ) (d : C) → get_or mid (kept_at n side i r c) d ≡ get_or old (kept_at n side i r c) d
+kept_stays n side old mid stays i r c d = stays (kept_at n side i r c) d (inr (omega arith))
+
+-- Where all copies are written from the line, and then those of the wounds from their strands, each is as it was seen.
+pub all_settled : {C : Type 0} (wounds : Plane Bool) (n side : ℕ) (old mid new : List C)
+    → PlanesWritten 0 (2 * (n * (side * side))) n side old mid → StrandsSettled n side (Marked wounds) mid new
+    → CopiesSettled wounds n side (λ i r c. r < side) old new
+all_settled wounds n side old mid new lines strands = record {
+  inside = λ i r c d hi hr hc _.
+      elim (cases_Bool (wounds r c)) [
+        | inl wounded ↦
+            strands.inside i r c d hi hr hc wounded ∙ kept_stays n side old mid lines.outside i r c d
+            ∙ sym (ap (λ k. get_or old k d) (cond-true _ _ _ wounded))
+        | inr out ↦
+            strands.others i r c d hi hr hc (λ wounded. both_ways _ out wounded)
+            ∙ lines.inside (copy_at side i r c) d (copy_in n side i r c hi hr hc) i (r * side + c) hi (place_in side side r c hr hc) refl
+            ∙ sym (ap (λ k. get_or old k d) (cond-false _ _ _ out))
+      ];
+  others = λ i r c d hi hr hc out. absurd (out hr);
+  outside = λ k d h. strands.outside k d h ∙ lines.outside k d h;
+}

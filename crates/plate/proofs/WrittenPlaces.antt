@@ -1,5 +1,5 @@
 -- Places of the planes written one after another.
-use Rattle.std.proofs.Common.{◌≡◌, ℕ, ◌+◌, ◌-◌, ◌*◌, ◌<◌, ◌≤◌, ◌≢◌, ◌⊎◌, Bool, true, false, List, length, get_or, set, get_or-set_other, get_or-set_same, sym, refl, ap, ◌∙◌, inl, inr, mul_comm, arith}
+use Rattle.std.proofs.Common.{◌≡◌, ℕ, ◌+◌, ◌-◌, ◌*◌, ◌<◌, ◌≤◌, ◌≢◌, ◌⊎◌, Bool, true, false, List, length, get_or, set, get_or-set_other, get_or-set_same, sym, refl, ap, ◌∙◌, subst, inl, inr, add-mul, mul_comm, mul-le-mul_right, one-mul, arith}
 use mathlib.Core.Bool.{cond}
 use Rattle.std.proofs.lemmas.Bool.{cases_lt}
 use Rattle.toom.specs.Torus.{Plane, next}
@@ -89,40 +89,76 @@ pub strand_in : (n side i r c : ℕ) → i < n → r < side → c < side → str
 strand_in n side i r c hi hr hc =
     omega (arith, place_in (side * side) n (r * side + c) i (place_in side side r c hr hc) hi, mul_comm n (side * side))
 
+pub strands_within : (n side r c count : ℕ) → r < side → c + count ≤ side → (r * side + c) * n + count * n ≤ n * (side * side)
+strands_within n side r c count hr hc =
+    omega (arith, add-mul (r * side + c) count n, mul_comm n (side * side),
+    mul-le-mul_right {m = (r * side + c + count)} {n = (side * side)} n (omega (arith, block_in side side r hr)))
+
 pub strand_within : (n side r c : ℕ) → r < side → c < side → (r * side + c) * n + n ≤ n * (side * side)
-strand_within n side r c hr hc =
-    omega (arith, block_in (side * side) n (r * side + c) (place_in side side r c hr hc), mul_comm n (side * side))
+strand_within n side r c hr hc = omega (arith, strands_within n side r c 1 hr (omega arith), one-mul n)
 
 module _ {C : Type 0} (n side base : ℕ) (value : (i r c : ℕ) → C → C) where
-  -- One strand in one sweep.
-  pub strand_written : (r c to : ℕ) → r < side → c < side → to ≡ base + (r * side + c) * n → (wanted : Wanted C) (old new : List C)
-      → Swept to n wanted old new → ((j : ℕ) (d x : C) → j < n → wanted j d x → x ≡ value j r c d)
-      → PlacesWritten n side base (strand_at n side) (λ k p q. (p ≡ r) × (q ≡ c)) value old new
-  strand_written r c to hr hc is wanted old new s meant = record {
-    inside = λ k p q d hk hp hq same.
-        let place : base + strand_at n side k p q ≡ to + k =
-        (λ z. base + strand_at n side k (same.0 z) (same.1 z)) ∙ omega (arith, is) in
-        ap (λ m. get_or new m d) place ∙ meant k d _ hk (s.inside k d hk) ∙ (λ z. value k (sym same.0 z) (sym same.1 z) d);
+  -- Strands of one row, one after another, in one sweep.
+  pub strands_written : (r c count to : ℕ) → r < side → c + count ≤ side → to ≡ base + (r * side + c) * n → (wanted : Wanted C) (old new : List C)
+      → Swept to (count * n) wanted old new
+      → ((q k : ℕ) (d x : C) → q < count → k < n → wanted (q * n + k) d x → x ≡ value k r (c + q) d)
+      → PlacesWritten n side base (strand_at n side) (λ k p q. (p ≡ r) × ((c ≤ q) × (q < c + count))) value old new
+  strands_written r c count to hr hc is wanted old new s meant = record {
+    inside = λ k p q d hk hp hq here.
+        let q' = q - c in
+        let low : q' < count = omega (arith, here.1.0, here.1.1) in
+        let column : c + q' ≡ q = omega (arith, here.1.0) in
+        let split : (r * side + q) * n ≡ (r * side + c) * n + q' * n =
+        ap (λ m. m * n) (let sum : r * side + q ≡ r * side + c + q' = omega (arith, here.1.0) in sum) ∙ add-mul (r * side + c) q' n in
+        let place : base + strand_at n side k p q ≡ to + (q' * n + k) =
+        (λ z. base + strand_at n side k (here.0 z) q) ∙ omega (arith, is, split) in
+        ap (λ m. get_or new m d) place ∙ meant q' k d _ low hk (s.inside (q' * n + k) d (place_in count n q' k low hk))
+        ∙ (λ z. value k (sym here.0 z) (column z) d);
     others = λ k p q d hk hp hq out.
         let at = base + strand_at n side k p q in
-        let far : (at < to) ⊎ (to + n ≤ at) =
+        let far : (at < to) ⊎ (to + count * n ≤ at) =
         elim (cases_lt at to) [
           | inl l ↦ inl l
           | inr g ↦
-              elim (cases_lt at (to + n)) [
-                | inl l ↦
-                    let j : at - to < n = omega arith in
-                    let e : (p * side + q) * n + k ≡ (r * side + c) * n + (at - to) = omega (arith, is) in
-                    let block = one_place n (p * side + q) k (r * side + c) (at - to) hk j e in
-                    let same = one_place side p q r c hq hc block.0 in
-                    absurd (out same)
+              elim (cases_lt at (to + count * n)) [
+                | inl l ↦ absurd (out (between k p q hk hp hq (omega (arith, is)) (omega (arith, is))))
                 | inr far ↦ inr far
               ]
         ] in
         s.outside at d far;
     outside = λ k d h.
-        s.outside k d (elim h [ inl l ↦ inl (omega (arith, is)) | inr g ↦ inr (omega (arith, is, strand_within n side r c hr hc)) ]);
+        s.outside k d (elim h [ inl l ↦ inl (omega (arith, is)) | inr g ↦ inr (omega (arith, is, strands_within n side r c count hr hc)) ]);
   }
+    where
+      -- A strand that lies among them is of one of their places.
+      between : (k p q : ℕ) → k < n → p < side → q < side → (r * side + c) * n ≤ strand_at n side k p q
+          → strand_at n side k p q < (r * side + c) * n + count * n → (p ≡ r) × ((c ≤ q) × (q < c + count))
+      between k p q hk hp hq low high =
+          elim (cases_lt (p * side + q) (r * side + c)) [
+            | inl l ↦ absurd (omega (arith, low, block_in (r * side + c) n (p * side + q) l))
+            | inr g ↦
+                elim (cases_lt (p * side + q) (r * side + c + count)) [
+                  | inl l ↦
+                      let t = p * side + q - (r * side + c) in
+                      let e : p * side + q ≡ r * side + (c + t) = omega arith in
+                      let same = one_place side p q r (c + t) hq (omega arith) e in
+                      (same.0, (omega (arith, same.1), omega (arith, same.1)))
+                  | inr h ↦ absurd (omega (arith, high, add-mul (r * side + c) count n, mul-le-mul_right {m = (r * side + c + count)} {n = (p * side + q)} n h))
+                ]
+          ]
+
+  -- One strand in one sweep.
+  pub strand_written : (r c to : ℕ) → r < side → c < side → to ≡ base + (r * side + c) * n → (wanted : Wanted C) (old new : List C)
+      → Swept to n wanted old new → ((j : ℕ) (d x : C) → j < n → wanted j d x → x ≡ value j r c d)
+      → PlacesWritten n side base (strand_at n side) (λ k p q. (p ≡ r) × (q ≡ c)) value old new
+  strand_written r c to hr hc is wanted old new s meant =
+      written_same n side base (strand_at n side) value _ _ old new
+      (strands_written r c 1 to hr (omega arith) is wanted old new (subst (λ m. Swept to m wanted old new) (sym (one-mul n)) s)
+      (λ q k d x hq hk is'.
+      let none : q * n + k ≡ k = omega (arith, ap (λ m. m * n) (let zero : q ≡ 0 = omega arith in zero)) in
+      let here : c ≡ c + q = omega arith in
+      meant k d x hk (subst (λ m. wanted m d x) none is') ∙ (λ z. value k r (here z) d)))
+      (λ k p q hk hp hq x. (x.0, omega (arith, x.1.0, x.1.1))) (λ k p q hk hp hq y. (y.0, (omega (arith, y.1), omega (arith, y.1))))
 
 -- Votes leave what they read.
 module _ {C : Type 0} (equal : C → C → Bool) (n side : ℕ) (wounds : Plane Bool) (old mid : List C)

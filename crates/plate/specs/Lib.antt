@@ -1,5 +1,6 @@
 pub mod BeatCall
 pub mod BeatsCall
+pub mod Beside
 pub mod Board
 pub mod Faults
 pub mod Healing

@@ -87,6 +87,11 @@ abbrev pub CopiesSettled : {C : Type 0} → (wounds : Plane Bool) → (n side : 
 CopiesSettled wounds n side among before after =
     PlacesWritten n side 0 (copy_at side) among (λ i r c d. seen wounds before n side d i r c) before after
 
+-- The copies of these places are written from their strands.
+abbrev pub StrandsSettled : {C : Type 0} → (n side : ℕ) → (among : (i r c : ℕ) → Type 0) → (before after : List C) → Type 0
+StrandsSettled n side among before after =
+    PlacesWritten n side 0 (copy_at side) among (λ i r c d. slice_index_or before (kept_at n side i r c) d) before after
+
 -- The line moves to the earlier line and is stepped; all else stays.
 pub record LineSteps {C : Type 0} (host : C → C → C → C) (n side : ℕ) (before after : List C) : Type 0 where
   pub earlier : (i : ℕ) (d : C) → i < n → slice_index_or after (earlier_at n side i) d ≡ line before n side d i

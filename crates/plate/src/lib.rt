@@ -1,6 +1,7 @@
 // The healing plate.
 #![tactic(auto)]
 
+mod beside;
 pub mod checks;
 pub mod fault;
 pub mod laid;
@@ -12,6 +13,7 @@ mod mapping;
 pub mod plate;
 mod quick;
 mod reading;
+mod resting;
 mod settling;
 mod shape;
 mod strand;

@@ -5,8 +5,11 @@ ghost use Rattle.toom.specs.Torus.{Plane};
 ghost use Rattle.plate.specs.BeatCall.{CellsBeaten};
 ghost use Rattle.plate.specs.BeatsCall.{CellsBeatenBy};
 ghost use Rattle.plate.specs.Layout.{size_of};
+ghost use Rattle.plate.specs.Beside.{Beside};
 ghost use Rattle.plate.specs.Wounds.{BeatenFor, BeatenTimes, Clear, Covers, LineOutside, LineSteps, StandFor};
 
+use crate::beside::beside_of;
+use crate::resting::{spread_line, vote_lying};
 use crate::settling::{settle, write_planes};
 use crate::shape::Shape;
 use crate::strands::{gather, step_strands, vote_strands};
@@ -62,6 +65,29 @@ fn line_beats<C: Kind, H: Host<C>>(host: &H, cells: &mut [C], shape: Shape, time
     }
 }
 
+// One beat while the wounds rest: the line is written to the strands beside them, theirs are voted as they lie, and the line and they step.
+fn rest_strands<C: Kind, H: Host<C>>(
+    host: &H,
+    cells: &mut [C],
+    shape: Shape,
+    wounds: &Shadow,
+    beside: &Shadow,
+)
+    requires cells { size_of shape.planes shape.side ≤ length cells.old }
+    requires side { wounds.now.side ≡ shape.side }
+    requires other { beside.now.side ≡ shape.side }
+    requires beside { Beside shape.side (marks wounds.now) (marks beside.now) }
+    requires covers { Covers shape.side (marks wounds.now) (marks wounds.now) }
+    ensures { BeatenFor C.eq (H.meaning host.now) shape.planes shape.side
+        (marks wounds.now) cells.old (marks wounds.now) cells.new }
+{
+    vote_heals::<C>();
+    spread_line(cells, shape, beside);
+    vote_lying(cells, shape, wounds);
+    step_line(host, cells, shape);
+    step_strands(host, cells, shape, wounds);
+}
+
 // Beats while the wounds rest, which is where their vote leaves them as they are.
 fn resting_beats<C: Kind, H: Host<C>>(
     host: &H,
@@ -80,8 +106,9 @@ fn resting_beats<C: Kind, H: Host<C>>(
         line_beats(host, cells, shape, times);
         return;
     }
+    let beside = beside_of(wounds);
     for _ in 0..times {
-        beat_strands(host, cells, shape, wounds, wounds);
+        rest_strands(host, cells, shape, wounds, &beside);
     }
 }
 

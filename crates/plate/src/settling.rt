@@ -2,7 +2,7 @@
 ghost use Rattle.std.specs.Prelude.{◌≡◌, ◌+◌, ◌*◌, ◌<◌, ◌≤◌, length};
 ghost use Rattle.toom.specs.Shadow.{marks};
 ghost use Rattle.plate.specs.Layout.{size_of};
-ghost use Rattle.plate.specs.Wounds.{CopiesSettled, PlanesWritten};
+ghost use Rattle.plate.specs.Wounds.{CopiesSettled, InStretch, Marked, PlanesWritten, StrandsSettled};
 
 use crate::laying::paint;
 use crate::shape::Shape;
@@ -10,6 +10,7 @@ use crate::strand::settle_place;
 use crate::sweep::cell_at;
 use toom::kind::Kind;
 use toom::shadow::Shadow;
+use toom::shadow::stretches::Stretch;
 
 // Writes the planes that begin at `base`: each of its cell from `from` on.
 pub(crate) fn write_planes<C: Kind>(cells: &mut [C], shape: Shape, base: usize, from: usize)
@@ -24,27 +25,37 @@ pub(crate) fn write_planes<C: Kind>(cells: &mut [C], shape: Shape, base: usize, 
     }
 }
 
-// Writes the copies of a row as they are seen.
-fn settle_row<C: Kind>(cells: &mut [C], shape: Shape, wounds: &Shadow, row: usize)
+// Writes the copies of a stretch from their strands.
+fn settle_stretch<C: Kind>(cells: &mut [C], shape: Shape, stretch: Stretch)
     requires cells { size_of shape.planes shape.side ≤ length cells.old }
-    requires side { wounds.now.side ≡ shape.side }
-    requires row { row < shape.side }
-    ensures { CopiesSettled (marks wounds.now) shape.planes shape.side (λ i r c. r ≡ row)
-        cells.old cells.new }
+    requires row { stretch.row < shape.side }
+    requires columns { stretch.column + stretch.length ≤ shape.side }
+    ensures { StrandsSettled shape.planes shape.side (InStretch stretch) cells.old cells.new }
 {
-    for column in 0..shape.side {
-        settle_place(cells, shape, wounds, row, column);
+    for column in stretch.column..stretch.column + stretch.length {
+        settle_place(cells, shape, stretch.row, column);
     }
 }
 
-// Writes all copies as they are seen.
+// Writes the copies of the wounds from their strands.
+fn settle_wounds<C: Kind>(cells: &mut [C], shape: Shape, wounds: &Shadow)
+    requires cells { size_of shape.planes shape.side ≤ length cells.old }
+    requires side { wounds.now.side ≡ shape.side }
+    ensures { StrandsSettled shape.planes shape.side (Marked (marks wounds.now))
+        cells.old cells.new }
+{
+    for stretch in wounds.stretches() {
+        settle_stretch(cells, shape, stretch);
+    }
+}
+
+// Writes all copies as they are seen: all from the line, and then those of the wounds from their strands.
 pub(crate) fn settle<C: Kind>(cells: &mut [C], shape: Shape, wounds: &Shadow)
     requires cells { size_of shape.planes shape.side ≤ length cells.old }
     requires side { wounds.now.side ≡ shape.side }
     ensures { CopiesSettled (marks wounds.now) shape.planes shape.side
         (λ i r c. r < shape.side) cells.old cells.new }
 {
-    for row in 0..shape.side {
-        settle_row(cells, shape, wounds, row);
-    }
+    write_planes(cells, shape, 0, 2 * shape.copies());
+    settle_wounds(cells, shape, wounds);
 }

@@ -1,8 +1,8 @@
 // The strand of one place: its copies, plane after plane, one after another as the cells of the line are. It is voted and steps as the line does.
-ghost use Rattle.std.specs.Prelude.{◌≡◌, ℕ, ◌+◌, ◌*◌, ◌<◌, ◌≤◌, length, slice_index_or};
+ghost use Rattle.std.specs.Prelude.{◌≡◌, ℕ, ◌+◌, ◌<◌, ◌≤◌, length};
 ghost use Rattle.toom.specs.Shadow.{marks};
-ghost use Rattle.plate.specs.Layout.{copy_at, size_of};
-ghost use Rattle.plate.specs.Wounds.{AtPlace, CopiesSettled, PlacesWritten, StrandsGathered, StrandsStepped, StrandsVoted, seen_at};
+ghost use Rattle.plate.specs.Layout.{size_of};
+ghost use Rattle.plate.specs.Wounds.{AtPlace, StrandsGathered, StrandsSettled, StrandsStepped, StrandsVoted, seen_at};
 
 use crate::shape::Shape;
 use crate::sweep::{Ballot, after, cell_at, fill, put, step_ring};
@@ -85,38 +85,18 @@ pub(crate) fn step_strand<C: Kind, H: Host<C>>(
     step_ring(host, cells, shape.copies() + from, from, planes);
 }
 
-// Writes the copies of a place: in each plane its cell from `from` on.
-fn write_copies<C: Kind>(cells: &mut [C], shape: Shape, from: usize, row: usize, column: usize)
-    requires from { shape.planes * (shape.side * shape.side) ≤ from }
-    requires cells { from + shape.planes ≤ length cells.old }
+// Writes the copies of a place from its strand.
+pub(crate) fn settle_place<C: Kind>(cells: &mut [C], shape: Shape, row: usize, column: usize)
+    requires cells { size_of shape.planes shape.side ≤ length cells.old }
     requires row { row < shape.side }
     requires column { column < shape.side }
-    ensures { PlacesWritten shape.planes shape.side 0 (copy_at shape.side) (AtPlace row column)
-        (λ i r c d. slice_index_or cells.old (from + i) d) cells.old cells.new }
+    ensures { StrandsSettled shape.planes shape.side (AtPlace row column) cells.old cells.new }
 {
     let area = shape.area();
     let place = row * shape.side + column;
+    let from = shape.copies() + place * shape.planes;
     for i in 0..shape.planes {
         let copy = cell_at(cells, from + i);
         put(cells, i * area + place, copy);
     }
-}
-
-// Writes the copies of a place as they are seen.
-pub(crate) fn settle_place<C: Kind>(
-    cells: &mut [C],
-    shape: Shape,
-    wounds: &Shadow,
-    row: usize,
-    column: usize,
-)
-    requires cells { size_of shape.planes shape.side ≤ length cells.old }
-    requires side { wounds.now.side ≡ shape.side }
-    requires row { row < shape.side }
-    requires column { column < shape.side }
-    ensures { CopiesSettled (marks wounds.now) shape.planes shape.side (AtPlace row column)
-        cells.old cells.new }
-{
-    let from = source_of(shape, wounds, row, column);
-    write_copies(cells, shape, from, row, column);
 }

@@ -1,0 +1,11 @@
+use Rattle.std.proofs.Common.{◌≡◌, ◌<◌, ◌≤◌, get_or}
+use Rattle.plate.specs.Layout.{copy_at}
+use Rattle.plate.specs.Wounds.{PlacesWritten, kept_at}
+use Rattle.plate.proofs.settling.settle_stretch.Given as goal
+
+abbrev pub invariant-loop-column : goal.invariant-loop-column
+invariant-loop-column g l =
+    let n = l.fn.shape.planes in
+    let side = l.fn.shape.side in
+    PlacesWritten n side 0 (copy_at side) (λ i r c. (c < l.column) × ((r ≡ l.fn.stretch.row) × (l.fn.stretch.column ≤ c)))
+    (λ i r c d. get_or l.initial.cells (kept_at n side i r c) d) l.initial.cells l.cells
