@@ -40,8 +40,8 @@ fn are_all<C: Kind>(cells: &[C], cell: C) -> bool
     same
 }
 
-// Adds the places of a row whose cells are not this one.
-fn add_row<C: Kind>(wounds: &mut Shadow, row: usize, cells: &[C], cell: C)
+// Adds the places of a row whose cells are not this one, and says how many of them are new.
+fn add_row<C: Kind>(wounds: &mut Shadow, row: usize, cells: &[C], cell: C) -> usize
     requires row { row < wounds.old.side }
     requires cells { wounds.old.side ≤ length cells.now }
     ensures side { wounds.new.side ≡ wounds.old.side }
@@ -50,30 +50,39 @@ fn add_row<C: Kind>(wounds: &mut Shadow, row: usize, cells: &[C], cell: C)
     ensures clear { (c : ℕ) (d : C) → c < wounds.old.side → marks wounds.new row c ≡ false
         → slice_index_or cells.now c d ≡ cell }
 {
+    let mut new = 0;
     for column in 0..wounds.side() {
-        if cell_at(cells, column) != cell {
+        if cell_at(cells, column) != cell && !is_wound(wounds, row, column) {
             let _ = wounds.add(row, column);
+            new += 1;
         }
     }
+    new
 }
 
-// Adds the places of a plane whose cells are not this one.
-fn add_plane<C: Kind>(wounds: &mut Shadow, plane: &[C], cell: C)
+// Adds the places of a plane whose cells are not this one. It says how many more may come after these, or none where there are too many already.
+fn add_plane<C: Kind>(wounds: &mut Shadow, plane: &[C], cell: C, room: usize) -> Option<usize>
     requires { wounds.old.side * wounds.old.side ≤ length plane.now }
     ensures side { wounds.new.side ≡ wounds.old.side }
     ensures stay { (r c : ℕ) → r < wounds.old.side → c < wounds.old.side
         → marks wounds.new r c ≡ false → marks wounds.old r c ≡ false }
-    ensures clear { (r c : ℕ) (d : C) → r < wounds.old.side → c < wounds.old.side
-        → marks wounds.new r c ≡ false
-        → slice_index_or plane.now (r * wounds.old.side + c) d ≡ cell }
+    ensures clear { IfSome result (λ _. (r c : ℕ) (d : C) → r < wounds.old.side
+        → c < wounds.old.side → marks wounds.new r c ≡ false
+        → slice_index_or plane.now (r * wounds.old.side + c) d ≡ cell) }
 {
     if are_all(plane, cell) {
-        return;
+        return Some(room);
     }
     let side = wounds.side();
+    let mut room = room;
     for row in 0..side {
-        add_row(wounds, row, &plane[row * side..row * side + side], cell);
+        let places = &plane[row * side..row * side + side];
+        // A row without wounds is passed over whole, for then many cells are compared at once.
+        if !are_all(places, cell) {
+            room = room.checked_sub(add_row(wounds, row, places, cell))?;
+        }
     }
+    Some(room)
 }
 
 // The wounds of the cells, the places where a copy is not its plane's cell of the line; or none where they are more than `most`.
@@ -86,16 +95,15 @@ pub(crate) fn wounds_of<C: Kind>(cells: &[C], shape: Shape, most: usize) -> Opti
     let area = shape.area();
     let line = 2 * shape.copies();
     let mut wounds = Shadow::empty(shape.side)?;
+    let mut room = most;
     for i in 0..shape.planes {
         let plane = i * area;
-        add_plane(
+        room = add_plane(
             &mut wounds,
             &cells[plane..plane + area],
             cell_at(cells, line + i),
-        );
-        if wounds.count() > most {
-            return None;
-        }
+            room,
+        )?;
     }
     Some(wounds)
 }

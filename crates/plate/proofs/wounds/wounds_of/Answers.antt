@@ -13,11 +13,12 @@ loop-i-preserved g c =
     let i = c.loop-i.i in
     let sides = c.loop-i.invariant.0 in
     let area = c.area-area.ensures in
-    let looked = rw (sides, area) at c.add_plane.ensures.clear in (
-      c.add_plane.ensures.side ∙ sides,
+    let called = c.in_ok-room.ensures in
+    let looked = rw (sides, area) at called.clear in (
+      called.side ∙ sides,
       λ k p q d hk hp hq clear.
           elim (cases_lt k i) [
-            | inl l ↦ c.loop-i.invariant.1 k p q d l hp hq (c.add_plane.ensures.stay p q (omega (arith, sides)) (omega (arith, sides)) clear)
+            | inl l ↦ c.loop-i.invariant.1 k p q d l hp hq (called.stay p q (omega (arith, sides)) (omega (arith, sides)) clear)
             | inr h ↦
                 let at : k ≡ i = omega arith in
                 let place : copy_at side k p q ≡ i * (side * side) + (p * side + q) = ap (λ m. copy_at side m p q) at in
