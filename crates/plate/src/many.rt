@@ -10,9 +10,6 @@ use crate::wounds::{most_wounds, wounds_of};
 use hosts::host::Host;
 use toom::kind::Kind;
 
-// With fewer beats, to look for wounds and to write all copies out again takes longer than to beat all cells.
-const LEAST: u32 = 8;
-
 // At most so many beats of the wounds alone before they are looked for again: copies may come to agree with the line, which the vote of a set of
 // places does not tell.
 const LONGEST: u32 = 8192;
@@ -41,10 +38,13 @@ fn beats_by_wounds<C: Kind, H: Host<C>>(host: &H, cells: &mut [C], shape: Shape,
     ensures beaten { CellsBeatenBy C.eq (H.meaning host.now) shape.planes shape.side result
         cells.old cells.new }
 {
-    match wounds_of(cells, shape, most_wounds(shape)) {
-        Some(wounds) => quick_beats(host, cells, shape, wounds, most),
-        None => 0,
-    }
+    let Some(few) = most_wounds(shape, most) else {
+        return 0;
+    };
+    let Some(wounds) = wounds_of(cells, shape, few) else {
+        return 0;
+    };
+    quick_beats(host, cells, shape, wounds, few, most)
 }
 
 // Beats from one look for wounds to the next, at least one and at most as many as told: of the wounds alone, and then up to `span` of all cells. It
@@ -76,10 +76,6 @@ pub(crate) fn many_beats<C: Kind, H: Host<C>>(host: &H, cells: &mut [C], shape: 
     ensures { CellsBeatenBy C.eq (H.meaning host.now) shape.planes shape.side times
         cells.old cells.new }
 {
-    if times < LEAST {
-        dense_beats(host, cells, shape, times);
-        return;
-    }
     let mut left = times;
     let mut span = FIRST_SPAN;
     while left > 0 {

@@ -14,7 +14,6 @@ use crate::settling::{settle, write_planes};
 use crate::shape::Shape;
 use crate::strands::{gather, step_strands, vote_strands};
 use crate::sweep::{beat_cells, step_ring};
-use crate::wounds::most_wounds;
 use hosts::host::Host;
 use toom::kind::Kind;
 use toom::laws::vote_heals;
@@ -132,12 +131,14 @@ fn last_beat<C: Kind, H: Host<C>>(host: &H, cells: &mut [C], shape: Shape, wound
     beat_cells(host, cells, shape);
 }
 
-// Beats at least once and at most as often as told, and says how often: fewer times only where the wounds become many. All wounds are among these.
+// Beats at least once and at most as often as told, and says how often: fewer times only where the wounds are not few any more. All wounds are among
+// these.
 pub(crate) fn quick_beats<C: Kind, H: Host<C>>(
     host: &H,
     cells: &mut [C],
     shape: Shape,
     wounds: Shadow,
+    few: usize,
     most: u32,
 ) -> u32
     requires cells { size_of shape.planes shape.side ≤ length cells.old }
@@ -149,7 +150,6 @@ pub(crate) fn quick_beats<C: Kind, H: Host<C>>(
     ensures beaten { CellsBeatenBy C.eq (H.meaning host.now) shape.planes shape.side result
         cells.old cells.new }
 {
-    let few = most_wounds(shape);
     let mut wounds = wounds;
     let mut left = most - 1;
     gather(cells, shape, &wounds);

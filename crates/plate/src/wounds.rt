@@ -18,12 +18,23 @@ pub(crate) fn is_wound(wounds: &Shadow, row: usize, column: usize) -> bool
     wounds.holds(row, column).unwrap_or(false)
 }
 
-// To begin a strand takes as long as so many cells of a sweep over all planes. Measured with bits, whose cells take least.
-const START: usize = 64;
+// To look for wounds once and to write the planes out takes as long as so many beats of all cells, and as so many cells of such a beat for each
+// plane, since each is looked at and written by itself.
+const LOOK: usize = 2;
 
-// With more wounds than this, to beat all cells takes less time.
-pub(crate) fn most_wounds(shape: Shape) -> usize {
-    shape.copies() / (shape.planes + START)
+const PLANE: usize = 35;
+
+// To begin a strand takes as long as so many cells of such a beat.
+const START: usize = 110;
+
+// With more wounds than this, so many beats of all cells take less time; none where they do so even without a wound.
+pub(crate) fn most_wounds(shape: Shape, times: u32) -> Option<usize>
+    requires { 1 ≤ times }
+{
+    let copies = shape.copies();
+    let once = LOOK * copies + PLANE * shape.planes;
+    let room = copies.checked_sub(once / times as usize)?;
+    Some(room / (shape.planes + START))
 }
 
 // Whether all cells are this one. It reads them all, for then many are compared at once.
