@@ -33,6 +33,7 @@ pub mod SettledPlaces
 pub mod ShortRings
 pub mod SoundPlaces
 pub mod Standing
+pub mod SteppedStretches
 pub mod Strikes
 pub mod Sweeps
 pub mod SweptBeats

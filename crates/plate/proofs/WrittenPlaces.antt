@@ -61,43 +61,70 @@ module _ {C : Type 0} (n side base : ℕ) (at : (i r c : ℕ) → ℕ) (value : 
         (λ i r c hr hc x. elim (cases_lt (by i r c) j) [ inl l ↦ inl (l, x.1) | inr g ↦ inr (omega arith, x.1) ])
         (λ i r c x. (omega arith, x.1)) (λ i r c hr hc y. (omega arith, y.1))
 
+-- One cell, where no two have the same place.
+module _ {C : Type 0} (n side base : ℕ) (at : (i r c : ℕ) → ℕ) (value : (i r c : ℕ) → C → C)
+    (one : (i r c k p q : ℕ) → i < n → r < side → c < side → k < n → p < side → q < side → at i r c ≡ at k p q → (i ≡ k) × ((r ≡ p) × (c ≡ q)))
+    (within : (i r c : ℕ) → i < n → r < side → c < side → at i r c < n * (side * side)) where
+  cell_written : (i r c to : ℕ) → i < n → r < side → c < side → to ≡ base + at i r c → (xs new : List C) (x : C → C) → to < length xs
+      → ((d : C) → new ≡ set xs to (x d)) → ((d : C) → x d ≡ value i r c d)
+      → PlacesWritten n side base at (λ k p q. (k ≡ i) × ((p ≡ r) × (q ≡ c))) value xs new
+  cell_written i r c to hi hr hc is xs new x long written meant = record {
+    inside = λ k p q d hk hp hq same.
+        let place : base + at k p q ≡ to =
+        (λ z. base + at (same.0 z) (same.1.0 z) (same.1.1 z)) ∙ sym is in
+        ap (λ m. get_or new m d) place ∙ ap (λ ys. get_or ys to d) (written d) ∙ get_or-set_same xs to (x d) d long ∙ meant d
+        ∙ (λ z. value (sym same.0 z) (sym same.1.0 z) (sym same.1.1 z) d);
+    others = λ k p q d hk hp hq out.
+        let ne : base + at k p q ≢ to =
+        λ e.
+        let same : at k p q ≡ at i r c = omega (arith, e, is) in
+        out (one k p q i r c hk hp hq hi hr hc same) in
+        ap (λ ys. get_or ys (base + at k p q) d) (written d) ∙ get_or-set_other xs to (base + at k p q) (x d) d ne;
+    outside = λ k d h.
+        let ne : k ≢ to =
+        elim h [ inl l ↦ λ e. omega (arith, e, is) | inr g ↦ λ e. omega (arith, e, is, within i r c hi hr hc) ] in
+        ap (λ ys. get_or ys k d) (written d) ∙ get_or-set_other xs to k (x d) d ne;
+  }
+
 module _ {C : Type 0} (n side base : ℕ) (value : (i r c : ℕ) → C → C) where
   -- One copy of one plane.
   pub copy_written : (i r c to : ℕ) → i < n → r < side → c < side → to ≡ base + copy_at side i r c → (xs new : List C) (x : C → C) → to < length xs
       → ((d : C) → new ≡ set xs to (x d)) → ((d : C) → x d ≡ value i r c d)
       → PlacesWritten n side base (copy_at side) (λ k p q. (k ≡ i) × ((p ≡ r) × (q ≡ c))) value xs new
-  copy_written i r c to hi hr hc is xs new x within written meant = record {
-    inside = λ k p q d hk hp hq same.
-        let place : base + copy_at side k p q ≡ to =
-        (λ z. base + copy_at side (same.0 z) (same.1.0 z) (same.1.1 z)) ∙ sym is in
-        ap (λ m. get_or new m d) place ∙ ap (λ ys. get_or ys to d) (written d) ∙ get_or-set_same xs to (x d) d within ∙ meant d
-        ∙ (λ z. value (sym same.0 z) (sym same.1.0 z) (sym same.1.1 z) d);
-    others = λ k p q d hk hp hq out.
-        let ne : base + copy_at side k p q ≢ to =
-        λ e.
-        let at : copy_at side k p q ≡ copy_at side i r c = omega (arith, e, is) in
-        out (one_copy side k p q i r c hp hq hr hc at) in
-        ap (λ ys. get_or ys (base + copy_at side k p q) d) (written d) ∙ get_or-set_other xs to (base + copy_at side k p q) (x d) d ne;
-    outside = λ k d h.
-        let ne : k ≢ to =
-        elim h [ inl l ↦ λ e. omega (arith, e, is) | inr g ↦ λ e. omega (arith, e, is, copy_in n side i r c hi hr hc) ] in
-        ap (λ ys. get_or ys k d) (written d) ∙ get_or-set_other xs to k (x d) d ne;
-  }
+  copy_written =
+      cell_written n side base (copy_at side) value (λ i r c k p q hi hr hc hk hp hq e. one_copy side i r c k p q hr hc hp hq e) (copy_in n side)
 
 -- A strand lies among the strands.
 pub strand_in : (n side i r c : ℕ) → i < n → r < side → c < side → strand_at n side i r c < n * (side * side)
 strand_in n side i r c hi hr hc =
     omega (arith, place_in (side * side) n (r * side + c) i (place_in side side r c hr hc) hi, mul_comm n (side * side))
 
+-- And each of its cells is of one plane and one place.
+one_strand : (n side i r c k p q : ℕ) → i < n → r < side → c < side → k < n → p < side → q < side → strand_at n side i r c ≡ strand_at n side k p q
+    → (i ≡ k) × ((r ≡ p) × (c ≡ q))
+one_strand n side i r c k p q hi hr hc hk hp hq e =
+    let place = one_place n (r * side + c) i (p * side + q) k hi hk e in
+    (place.1, one_place side r c p q hc hq place.0)
+
 pub strands_within : (n side r c count : ℕ) → r < side → c + count ≤ side → (r * side + c) * n + count * n ≤ n * (side * side)
 strands_within n side r c count hr hc =
-    omega (arith, add-mul (r * side + c) count n, mul_comm n (side * side),
-    mul-le-mul_right {m = (r * side + c + count)} {n = (side * side)} n (omega (arith, block_in side side r hr)))
+    omega (
+      arith,
+      add-mul (r * side + c) count n,
+      mul_comm n (side * side),
+      mul-le-mul_right {m = (r * side + c + count)} {n = (side * side)} n (omega (arith, block_in side side r hr)),
+    )
 
 pub strand_within : (n side r c : ℕ) → r < side → c < side → (r * side + c) * n + n ≤ n * (side * side)
 strand_within n side r c hr hc = omega (arith, strands_within n side r c 1 hr (omega arith), one-mul n)
 
 module _ {C : Type 0} (n side base : ℕ) (value : (i r c : ℕ) → C → C) where
+  -- One cell of one strand.
+  pub strand_cell_written : (i r c to : ℕ) → i < n → r < side → c < side → to ≡ base + strand_at n side i r c → (xs new : List C) (x : C → C) → to < length xs
+      → ((d : C) → new ≡ set xs to (x d)) → ((d : C) → x d ≡ value i r c d)
+      → PlacesWritten n side base (strand_at n side) (λ k p q. (k ≡ i) × ((p ≡ r) × (q ≡ c))) value xs new
+  strand_cell_written = cell_written n side base (strand_at n side) value (one_strand n side) (strand_in n side)
+
   -- Strands of one row, one after another, in one sweep.
   pub strands_written : (r c count to : ℕ) → r < side → c + count ≤ side → to ≡ base + (r * side + c) * n → (wanted : Wanted C) (old new : List C)
       → Swept to (count * n) wanted old new

@@ -1,5 +1,5 @@
 // The strand of one place: its copies, plane after plane, one after another as the cells of the line are. It is voted and steps as the line does.
-ghost use Rattle.std.specs.Prelude.{◌≡◌, ℕ, ◌+◌, ◌<◌, ◌≤◌, length};
+ghost use Rattle.std.specs.Prelude.{◌≡◌, ℕ, ◌+◌, ◌<◌, ◌≤◌, ◌⊎◌, length};
 ghost use Rattle.toom.specs.Shadow.{marks};
 ghost use Rattle.plate.specs.Layout.{size_of};
 ghost use Rattle.plate.specs.Wounds.{AtPlace, StrandsGathered, StrandsSettled, StrandsStepped, StrandsVoted, seen_at};
@@ -83,6 +83,33 @@ pub(crate) fn step_strand<C: Kind, H: Host<C>>(
     let planes = shape.planes;
     let from = (row * shape.side + column) * planes;
     step_ring(host, cells, shape.copies() + from, from, planes);
+}
+
+// Steps the two ends of the strand of a place from their votes. Each has a neighbour at the other end.
+pub(crate) fn step_ends<C: Kind, H: Host<C>>(
+    host: &H,
+    cells: &mut [C],
+    shape: Shape,
+    row: usize,
+    column: usize,
+)
+    requires planes { 2 ≤ shape.planes }
+    requires cells { size_of shape.planes shape.side ≤ length cells.old }
+    requires row { row < shape.side }
+    requires column { column < shape.side }
+    ensures { StrandsStepped (H.meaning host.now) shape.planes shape.side
+        (λ i r c. ((i ≡ 0) ⊎ (i + 1 ≡ shape.planes)) × AtPlace row column i r c)
+        cells.old cells.new }
+{
+    let first = (row * shape.side + column) * shape.planes;
+    let last = first + (shape.planes - 1);
+    let to = shape.copies();
+    let start = cell_at(cells, first);
+    let end = cell_at(cells, last);
+    let stepped_start = host.answer(end, start, cell_at(cells, first + 1));
+    let stepped_end = host.answer(cell_at(cells, last - 1), end, start);
+    put(cells, to + first, stepped_start);
+    put(cells, to + last, stepped_end);
 }
 
 // Writes the copies of a place from its strand.

@@ -5,7 +5,8 @@ ghost use Rattle.plate.specs.Layout.{size_of};
 ghost use Rattle.plate.specs.Wounds.{InStretch, Marked, StrandsGathered, StrandsStepped, StrandsVoted};
 
 use crate::shape::Shape;
-use crate::strand::{gather_strand, step_strand, vote_strand};
+use crate::strand::{gather_strand, step_ends, step_strand, vote_strand};
+use crate::sweep::fill;
 use hosts::host::Host;
 use toom::kind::Kind;
 use toom::shadow::Shadow;
@@ -62,8 +63,8 @@ pub(crate) fn vote_strands<C: Kind>(cells: &mut [C], shape: Shape, wounds: &Shad
     }
 }
 
-// Steps the strands of a stretch from their votes.
-fn step_stretch<C: Kind, H: Host<C>>(host: &H, cells: &mut [C], shape: Shape, stretch: Stretch)
+// Steps the strands of a stretch from their votes, each by itself.
+fn step_each<C: Kind, H: Host<C>>(host: &H, cells: &mut [C], shape: Shape, stretch: Stretch)
     requires cells { size_of shape.planes shape.side ≤ length cells.old }
     requires row { stretch.row < shape.side }
     requires columns { stretch.column + stretch.length ≤ shape.side }
@@ -72,6 +73,41 @@ fn step_stretch<C: Kind, H: Host<C>>(host: &H, cells: &mut [C], shape: Shape, st
 {
     for column in stretch.column..stretch.column + stretch.length {
         step_strand(host, cells, shape, stretch.row, column);
+    }
+}
+
+// Steps them in one sweep, as if they were one strand, which takes least time where there are several. In it the ends of a strand have neighbours in
+// the strands beside it: so they are stepped again.
+fn step_swept<C: Kind, H: Host<C>>(host: &H, cells: &mut [C], shape: Shape, stretch: Stretch)
+    requires planes { 2 ≤ shape.planes }
+    requires cells { size_of shape.planes shape.side ≤ length cells.old }
+    requires row { stretch.row < shape.side }
+    requires some { 1 ≤ stretch.length }
+    requires columns { stretch.column + stretch.length ≤ shape.side }
+    ensures { StrandsStepped (H.meaning host.now) shape.planes shape.side (InStretch stretch)
+        cells.old cells.new }
+{
+    let from = (stretch.row * shape.side + stretch.column) * shape.planes;
+    let to = shape.copies() + from;
+    let count = stretch.length * shape.planes;
+    fill(host, cells, to + 1, from, from + 1, from + 2, count - 2);
+    for column in stretch.column..stretch.column + stretch.length {
+        step_ends(host, cells, shape, stretch.row, column);
+    }
+}
+
+// Steps the strands of a stretch from their votes.
+fn step_stretch<C: Kind, H: Host<C>>(host: &H, cells: &mut [C], shape: Shape, stretch: Stretch)
+    requires cells { size_of shape.planes shape.side ≤ length cells.old }
+    requires row { stretch.row < shape.side }
+    requires columns { stretch.column + stretch.length ≤ shape.side }
+    ensures { StrandsStepped (H.meaning host.now) shape.planes shape.side (InStretch stretch)
+        cells.old cells.new }
+{
+    if shape.planes < 2 || stretch.length < 2 {
+        step_each(host, cells, shape, stretch);
+    } else {
+        step_swept(host, cells, shape, stretch);
     }
 }
 

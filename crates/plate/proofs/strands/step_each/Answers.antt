@@ -2,7 +2,7 @@ use Rattle.std.proofs.Common.{◌≡◌, ◌*◌, ◌≤◌, get_or, arith}
 use Rattle.hosts.specs.Ring.{stepped}
 use Rattle.plate.specs.Wounds.{strand_at}
 use Rattle.plate.proofs.WrittenPlaces.{each_more, steps_stay, written_same}
-use Rattle.plate.proofs.strands.step_stretch.Goals as goal
+use Rattle.plate.proofs.strands.step_each.Goals as goal
 
 pub loop-column-preserved : goal.loop-column-preserved
 loop-column-preserved g c =

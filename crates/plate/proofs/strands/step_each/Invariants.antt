@@ -1,7 +1,7 @@
 use Rattle.std.proofs.Common.{◌≡◌, ◌*◌, ◌<◌, ◌≤◌, get_or}
 use Rattle.hosts.specs.Ring.{stepped}
 use Rattle.plate.specs.Wounds.{PlacesWritten, strand_at}
-use Rattle.plate.proofs.strands.step_stretch.Given as goal
+use Rattle.plate.proofs.strands.step_each.Given as goal
 
 abbrev pub invariant-loop-column : goal.invariant-loop-column
 invariant-loop-column g l =
