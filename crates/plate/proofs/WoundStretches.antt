@@ -97,7 +97,7 @@ module _ {C : Type 0} (n side base : ℕ) (at-of : (i r c : ℕ) → ℕ) (value
   stretch_more later x new y b agree = (
     ap (λ t. t.now) y.1 ∙ of_it,
     written_join n side base at-of value later _ _ _ old mid new a b agree apart
-    (λ i r c hr hc p. passed_splits s at next of_it x y r c (omega (arith, sides)) (omega (arith, sides)) p) passed reached,
+        (λ i r c hr hc p. passed_splits s at next of_it x y r c (omega (arith, sides)) (omega (arith, sides)) p) passed reached,
   )
     where
       first : FirstStretch s at.row at.column x

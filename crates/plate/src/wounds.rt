@@ -19,13 +19,14 @@ pub(crate) fn is_wound(wounds: &Shadow, row: usize, column: usize) -> bool
 }
 
 // To look for wounds once and to write the planes out takes as long as so many beats of all cells, and as so many cells of such a beat for each
-// plane, since each is looked at and written by itself.
+// plane, since each plane is looked at and written by itself.
 const LOOK: usize = 2;
 
 const PLANE: usize = 35;
 
-// To begin a strand takes as long as so many cells of such a beat.
-const START: usize = 110;
+// To begin a strand takes as long as so many cells of such a beat. Measured with bits, and wounds of which no two lie side by side in a row; of
+// machine cells, and of wounds that do, it is a small part of that.
+const START: usize = 124;
 
 // With more wounds than this, so many beats of all cells take less time; none where they do so even without a wound.
 pub(crate) fn most_wounds(shape: Shape, times: u32) -> Option<usize>

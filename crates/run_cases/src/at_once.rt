@@ -17,25 +17,37 @@ const MOST: usize = 40;
 
 const CELLS: usize = 5200;
 
-// Sides and planes. On the last three, lines of wounds are few; on the others only a lone one or none is.
-const SHAPES: [(usize, usize); 7] = [(2, 1), (2, 5), (3, 2), (8, 5), (16, 5), (16, 9), (8, 40)];
+// Sides and planes. Lines of wounds are few on the last three, if the beats are many; on the two before them a pair of places is, and on the first
+// three not even a lone one.
+const SHAPES: [(usize, usize); 8] = [
+    (2, 1),
+    (2, 5),
+    (3, 2),
+    (16, 1),
+    (8, 5),
+    (16, 9),
+    (16, 10),
+    (8, 40),
+];
 
-// The places that are struck. Lines stay or move, a cross grows, and a lone place heals.
+// The places that are struck. Lines stay or move, a cross grows, and a pair of places and a lone one heal.
 #[derive(Clone, Copy)]
 enum Pattern {
     Row,
     Column,
     Antidiagonal,
     Cross,
+    Pair,
     Lone,
     All,
 }
 
-const PATTERNS: [Pattern; 6] = [
+const PATTERNS: [Pattern; 7] = [
     Pattern::Row,
     Pattern::Column,
     Pattern::Antidiagonal,
     Pattern::Cross,
+    Pattern::Pair,
     Pattern::Lone,
     Pattern::All,
 ];
@@ -47,6 +59,7 @@ impl Pattern {
             Pattern::Column => column == 1,
             Pattern::Antidiagonal => row.saturating_add(column).saturating_add(1) == side,
             Pattern::Cross => row == 1 || column == 1,
+            Pattern::Pair => row == 1 && column <= 1,
             Pattern::Lone => row == 1 && column == 0,
             Pattern::All => true,
         }

@@ -22,8 +22,7 @@ loop-column-preserved c =
     let first = c.add_sound.ensures.added in
     let second = c.add_sound-in-loop-column.ensures.added in
     let both = added_more w old mid new first second in
-    let before = c.loop-column.invariant.0 in
-    (
+    let before = c.loop-column.invariant.0 in (
       added_more w c.args.beside.now old new before both,
       λ q low high.
           elim (cases_lt q column) [

@@ -15,7 +15,7 @@ loop-done-init g c =
       omega arith,
       c.requires.some,
       repeats_once n c.args.shape.side c.args.to c.args.cells.now c.copy_within.new.self
-      (rw copies at moved),
+          (rw copies at moved),
     )
 
 pub copy_within-requires-in-loop-done-clause-dest_in_bounds :
@@ -24,8 +24,12 @@ copy_within-requires-in-loop-done-clause-dest_in_bounds g c =
     let n = c.args.shape.planes in
     let done = c.loop-done.done in
     let more = c.min-more.result in
-    omega (arith, c.min-more.ensures, add-mul done more n,
-    mul-le-mul_right {m = done + more} {n = c.args.count} n (omega (arith, c.min-more.ensures)))
+    omega (
+      arith,
+      c.min-more.ensures,
+      add-mul done more n,
+      mul-le-mul_right {m = done + more} {n = c.args.count} n (omega (arith, c.min-more.ensures)),
+    )
 
 pub loop-done-preserved : goal.loop-done-preserved
 loop-done-preserved g c =
@@ -35,9 +39,9 @@ loop-done-preserved g c =
       omega arith,
       omega (arith, c.min-more.ensures),
       repeats_more n c.args.shape.side c.args.to c.args.cells.now done more c.loop-done.cells c.copy_within-in-loop-done.new.self
-      (omega (arith, c.min-more.ensures)) c.loop-done.invariant.2
-      (swept_copied (c.args.to + done * n) c.args.to (c.args.to + more * n - c.args.to) (more * n)
-      c.loop-done.cells c.copy_within-in-loop-done.new.self (omega arith) c.copy_within-in-loop-done.ensures.by_index),
+          (omega (arith, c.min-more.ensures)) c.loop-done.invariant.2
+          (swept_copied (c.args.to + done * n) c.args.to (c.args.to + more * n - c.args.to) (more * n)
+          c.loop-done.cells c.copy_within-in-loop-done.new.self (omega arith) c.copy_within-in-loop-done.ensures.by_index),
     )
 
 pub returns : goal.returns
