@@ -14,9 +14,9 @@ that it takes some seconds, and its time is scaled.
 With --crossing it measures where beats by the wounds and dense ones take as long. `round` alone plays, rounds in which no cell
 ever changes: lines of one plane are struck before the first beat, and their wounds last. The first table is of beats with no strike
 among them, the second of beats with a strike after every so many, which alters no copy. START is the cost of one wound in cells of
-dense beats, less n; START there is copies / wounds where the two are even, less n. --start says what `round` has for START in
-crates/plate/src/wounds.rt, 64 if it is not told: so the script knows how many wounds are few. Words for --rows are row, column,
-antidiagonal, spans, machine, "bits 64 4" and so on. It takes some four minutes.
+dense beats, less n. --start says what `round` has for START in crates/plate/src/wounds.rt, 124 if it is not told: so the script knows
+how many wounds are few, which is the column "few". Words for --rows are row, column, antidiagonal, spans, machine, "bits 64 4" and so
+on. It takes some three minutes.
 """
 import argparse
 import os
@@ -45,7 +45,6 @@ CROSSING_SHAPES = ((64, 4), (64, 1), (32, 16), (16, 64), (8, 256), (2, 4096))
 LINES = ("row", "column", "antidiagonal")
 GAPS = (2, 4, 8, 12, 16, 20, 40, 100)
 LOOKED = (8, 12, 16, 20)  # the gaps by which the price of a span is reckoned
-STARTS = (64, 110, 128)
 LONGEST_HOST = 481
 SECONDS = 0.15  # of dense beats in one play
 TRIAL = 4000  # the beats by which that number of beats is found
@@ -345,13 +344,13 @@ def put_lines(shape, what, start, times):
     copies = planes * side * side
     none, *some, dense = times
     points = [(0, none), *((lines * side, it) for lines, it in zip(few_lines(shape, start), some))]
-    said = ["-"] * 6
+    said = ["-"] * 5
     if some:
         wound, even = slope(points), even_at(points, dense)
         cells = wound * copies / dense
         said = [", ".join(f"{wounds}: {it:.0f}" for wounds, it in points[1:]), f"{wound:.1f}", f"{cells:.0f}",
-                f"{cells - planes:.0f}", f"{even:.1f}", f"{copies / even - planes:.0f}"]
-    put_row(*shape, what, f"{dense:.0f}", f"{none:.0f}", *said, *(bound(shape, it) for it in STARTS))
+                f"{cells - planes:.0f}", f"{even:.0f}"]
+    put_row(*shape, what, f"{dense:.0f}", f"{none:.0f}", *said, bound(shape, start))
 
 
 def put_spans(shape, start, times):
@@ -382,8 +381,7 @@ def crossing_tables(program, path, asked):
     rows = [(shape, what, [next(times) for _ in cases]) for shape, what, cases in plan]
     print(f"Nanoseconds of a beat, with no strikes among them. START of `round` is taken to be {asked.start}.")
     print()
-    put_head("cells", "side", "n", "lines", "dense", "no wounds", "wounds: beat", "one wound", "in cells", "START", "even at",
-             "START there", *(f"bound of {it}" for it in STARTS))
+    put_head("cells", "side", "n", "lines", "dense", "no wounds", "wounds: beat", "one wound", "in cells", "START", "even at", "few")
     for shape, what, it in rows:
         if what != "spans":
             put_lines(shape, what, asked.start, it)
@@ -405,7 +403,7 @@ def main():
     parser.add_argument("--repeat", type=int)
     parser.add_argument("--rows", default="")
     parser.add_argument("--crossing", action="store_true")
-    parser.add_argument("--start", type=int, default=64)
+    parser.add_argument("--start", type=int, default=124)
     asked = parser.parse_args()
     if not os.access(asked.round, os.X_OK):
         sys.exit(f"speed.py: {asked.round} is not built: run ./play once")
