@@ -8,7 +8,7 @@ left_more : (n i : ℕ) → 1 ≤ i → left_of n i ≡ i - 1
 left_more n zero h = absurd (omega arith)
 left_more n (suc i) h = omega arith
 
-right_more : (n i : ℕ) → i + 1 < n → right_of n i ≡ i + 1
+pub right_more : (n i : ℕ) → i + 1 < n → right_of n i ≡ i + 1
 right_more n i h = cond-false (eqb (i + 1) n) 0 (i + 1) (ne_eqb (i + 1) n (λ e. omega arith))
 
 right_last : (n i : ℕ) → i + 1 ≡ n → right_of n i ≡ 0

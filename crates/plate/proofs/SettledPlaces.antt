@@ -37,7 +37,7 @@ kept_stays n side old mid stays i r c d = stays (kept_at n side i r c) d (inr (o
 -- Where all copies are written from the line, and then those of the wounds from their strands, each is as it was seen.
 pub all_settled : {C : Type 0} (wounds : Plane Bool) (n side : ℕ) (old mid new : List C)
     → PlanesWritten 0 (2 * (n * (side * side))) n side old mid → StrandsSettled n side (Marked wounds) mid new
-    → CopiesSettled wounds n side (λ i r c. r < side) old new
+    → CopiesSettled wounds n side old new
 all_settled wounds n side old mid new lines strands = record {
   inside = λ i r c d hi hr hc _.
       elim (cases_Bool (wounds r c)) [

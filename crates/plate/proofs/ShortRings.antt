@@ -1,14 +1,10 @@
 -- A ring of single cells, stepped one after another.
-use Rattle.std.proofs.Common.{◌≡◌, ℕ, ◌+◌, ◌*◌, ◌<◌, ◌≤◌, ◌≢◌, ◌⊎◌, List, get_or, sym, ap, ◌∙◌, subst, add-one, arith}
-use Rattle.std.proofs.lemmas.Bool.{cond-false, ne_eqb}
-use Rattle.hosts.specs.Ring.{left_of, right_of}
+use Rattle.std.proofs.Common.{◌≡◌, ℕ, ◌+◌, ◌*◌, ◌<◌, ◌≤◌, ◌⊎◌, List, get_or, sym, ap, ◌∙◌, subst, add-one, arith}
+use Rattle.hosts.specs.Ring.{left_of}
 use Rattle.plate.specs.Sweep.{RingSteps, Steps, Swept}
 use Rattle.plate.proofs.SweptBeats.{stepped_same}
 
--- The cell after one is right of it, and one is left of the cell after it.
-pub right_inner : (n i : ℕ) → i + 1 < n → right_of n i ≡ i + 1
-right_inner n i h = cond-false _ _ _ (ne_eqb (i + 1) n (let ne : i + 1 ≢ n = omega arith in ne))
-
+-- One is left of the cell after it.
 pub left_after : (n i : ℕ) → left_of n (i + 1) ≡ i
 left_after n i = ap (left_of n) (add-one i)
 

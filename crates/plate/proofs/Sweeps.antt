@@ -78,11 +78,6 @@ module _ {C : Type 0} where
   read_old to from count n wanted old xs x w apart h within is d =
       get_or_read xs (from + n) x (omega arith) is d ∙ w.outside (from + n) d (apart_out to from count apart n n h (omega arith))
 
-  -- Below what is written all is old, at an index written another way.
-  pub below_old : (to n : ℕ) (wanted : Wanted C) (old xs : List C) → Swept to n wanted old xs → (k m : ℕ) → k ≡ m → m < to → (d : C)
-      → get_or xs k d ≡ get_or old m d
-  below_old to n wanted old xs w k m e h d = ap (λ i. get_or xs i d) e ∙ w.outside m d (inl h)
-
 -- A function of three, at equal arguments.
 pub three : {C : Type 0} (f : C → C → C → C) {a b c x y z : C} → a ≡ x → b ≡ y → c ≡ z → f a b c ≡ f x y z
 three f p q r i = f (p i) (q i) (r i)

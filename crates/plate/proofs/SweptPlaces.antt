@@ -36,14 +36,6 @@ module _ {C : Type 0} (equal : C → C → Bool) (n side : ℕ) where
   abbrev pub plane : List C → ℕ → C → ℕ → ℕ → C
   plane xs i d p q = get_or xs (copy_at side i p q) d
 
-  pub none_voted : (xs : List C) (A : Among) → ((i r c : ℕ) → A i r c → ⊥) → PlacesVoted equal n side A xs xs
-  none_voted xs A none =
-      record {
-        inside = λ i r c d hi hr hc a. absurd (none i r c a);
-        others = λ i r c d hi hr hc a. λ z. get_or xs (voted_at n side i r c) d;
-        outside = λ k d h. λ z. get_or xs k d;
-      }
-
   -- The votes read copies alone, which stay.
   pub vote_stays : (A : Among) (old mid : List C) → PlacesVoted equal n side A old mid → (i r c : ℕ) (d : C) → i < n → r < side → c < side
       → voted equal side (plane mid i d) r c ≡ voted equal side (plane old i d) r c

@@ -7,7 +7,7 @@ use Rattle.toom.specs.declared.shadow.stretches.Stretches.{Stretches}
 use Rattle.toom.specs.Shadow.{marks}
 use Rattle.toom.specs.Stretches.{Before, ClearFrom, FirstStretch, YieldsStretch}
 use Rattle.plate.specs.Wounds.{InStretch, Marked, PlacesWritten}
-use Rattle.plate.proofs.WrittenPlaces.{none_written, written_join, written_same}
+use Rattle.plate.proofs.WrittenPlaces.{written_join, written_same}
 
 -- A place comes before another, or it does not.
 before_cases : (r c row column : ℕ) → Before r c row column ⊎ (Before r c row column → ⊥)
@@ -133,8 +133,3 @@ module _ {C : Type 0} (n side base : ℕ) (at-of : (i r c : ℕ) → ℕ) (value
 -- Before the first stretch none is.
 pub none_passed : (s : Shadow) (at : Stretches) → at.row ≡ 0 → at.column ≡ 0 → (r c : ℕ) → Passed s at r c → ⊥
 none_passed s at row column r c p = elim p.1 [ inl l ↦ omega (arith, row) | inr e ↦ omega (arith, column, e.1) ]
-
-pub stretches_start : {C : Type 0} (n side base : ℕ) (at-of : (i r c : ℕ) → ℕ) (value : (i r c : ℕ) → C → C) (s : Shadow) (at : Stretches) → at.row ≡ 0 → at.column ≡ 0 → (xs : List C)
-    → PlacesWritten n side base at-of (λ i r c. Passed s at r c) value xs xs
-stretches_start n side base at-of value s at row column xs =
-    none_written n side base at-of value xs _ (λ i r c hi hr hc p. none_passed s at row column r c p)

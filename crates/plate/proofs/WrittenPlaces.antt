@@ -106,14 +106,13 @@ one_strand n side i r c k p q hi hr hc hk hp hq e =
     let place = one_place n (r * side + c) i (p * side + q) k hi hk e in
     (place.1, one_place side r c p q hc hq place.0)
 
+-- Strands of so many places from one on lie among the strands.
+pub places_within : (n side at count : ℕ) → at + count ≤ side * side → at * n + count * n ≤ n * (side * side)
+places_within n side at count h =
+    omega (arith, add-mul at count n, mul_comm n (side * side), mul-le-mul_right {m = at + count} {n = side * side} n h)
+
 pub strands_within : (n side r c count : ℕ) → r < side → c + count ≤ side → (r * side + c) * n + count * n ≤ n * (side * side)
-strands_within n side r c count hr hc =
-    omega (
-      arith,
-      add-mul (r * side + c) count n,
-      mul_comm n (side * side),
-      mul-le-mul_right {m = (r * side + c + count)} {n = (side * side)} n (omega (arith, block_in side side r hr)),
-    )
+strands_within n side r c count hr hc = places_within n side (r * side + c) count (omega (arith, block_in side side r hr))
 
 pub strand_within : (n side r c : ℕ) → r < side → c < side → (r * side + c) * n + n ≤ n * (side * side)
 strand_within n side r c hr hc = omega (arith, strands_within n side r c 1 hr (omega arith), one-mul n)

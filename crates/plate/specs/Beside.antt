@@ -11,7 +11,7 @@ use Rattle.plate.specs.Wounds.{PlacesWritten, strand_at}
 abbrev pub InEither : (wounds beside : Plane Bool) → (r c : ℕ) → Type 0
 InEither wounds beside r c = (wounds r c ≡ true) ⊎ (beside r c ≡ true)
 
--- North and east of a place are.
+-- Both that lie north and east of a place are wounds or beside one.
 abbrev pub ReadsEither : (side : ℕ) → (wounds beside : Plane Bool) → (r c : ℕ) → Type 0
 ReadsEither side wounds beside r c = InEither wounds beside (next side r) c × InEither wounds beside r (next side c)
 

@@ -82,10 +82,10 @@ StrandsStepped host n side among before after =
     PlacesWritten n side (n * (side * side)) (strand_at n side) among
     (λ i r c d. stepped host n (λ k. slice_index_or before (strand_at n side k r c) d) i) before after
 
--- The copies of these places are written as they are seen.
-abbrev pub CopiesSettled : {C : Type 0} → (wounds : Plane Bool) → (n side : ℕ) → (among : (i r c : ℕ) → Type 0) → (before after : List C) → Type 0
-CopiesSettled wounds n side among before after =
-    PlacesWritten n side 0 (copy_at side) among (λ i r c d. seen wounds before n side d i r c) before after
+-- All copies are written as they are seen.
+abbrev pub CopiesSettled : {C : Type 0} → (wounds : Plane Bool) → (n side : ℕ) → (before after : List C) → Type 0
+CopiesSettled wounds n side before after =
+    PlacesWritten n side 0 (copy_at side) (λ i r c. r < side) (λ i r c d. seen wounds before n side d i r c) before after
 
 -- The copies of these places are written from their strands.
 abbrev pub StrandsSettled : {C : Type 0} → (n side : ℕ) → (among : (i r c : ℕ) → Type 0) → (before after : List C) → Type 0

@@ -64,10 +64,10 @@ fn beats_of_a_look<C: Kind, H: Host<C>>(
     ensures beaten { CellsBeatenBy C.eq (H.meaning host.now) shape.planes shape.side result
         cells.old cells.new }
 {
-    let few = beats_by_wounds(host, cells, shape, most);
-    let more = span.min(most - few);
-    dense_beats(host, cells, shape, more);
-    few + more
+    let quick = beats_by_wounds(host, cells, shape, most);
+    let dense = span.min(most - quick);
+    dense_beats(host, cells, shape, dense);
+    quick + dense
 }
 
 // Beats the cells as often as told.

@@ -4,8 +4,8 @@ ghost use Rattle.toom.specs.Shadow.{marks};
 ghost use Rattle.toom.specs.Torus.{Plane};
 ghost use Rattle.plate.specs.BeatCall.{CellsBeaten};
 ghost use Rattle.plate.specs.BeatsCall.{CellsBeatenBy};
-ghost use Rattle.plate.specs.Layout.{size_of};
 ghost use Rattle.plate.specs.Beside.{Beside};
+ghost use Rattle.plate.specs.Layout.{size_of};
 ghost use Rattle.plate.specs.Wounds.{BeatenFor, BeatenTimes, Clear, Covers, LineOutside, LineSteps, StandFor};
 
 use crate::beside::beside_of;
@@ -65,7 +65,7 @@ fn line_beats<C: Kind, H: Host<C>>(host: &H, cells: &mut [C], shape: Shape, time
 }
 
 // One beat while the wounds rest: the line is written to the strands beside them, theirs are voted as they lie, and the line and they step.
-fn rest_strands<C: Kind, H: Host<C>>(
+fn beat_resting<C: Kind, H: Host<C>>(
     host: &H,
     cells: &mut [C],
     shape: Shape,
@@ -74,7 +74,7 @@ fn rest_strands<C: Kind, H: Host<C>>(
 )
     requires cells { size_of shape.planes shape.side ≤ length cells.old }
     requires side { wounds.now.side ≡ shape.side }
-    requires other { beside.now.side ≡ shape.side }
+    requires beside_side { beside.now.side ≡ shape.side }
     requires beside { Beside shape.side (marks wounds.now) (marks beside.now) }
     requires covers { Covers shape.side (marks wounds.now) (marks wounds.now) }
     ensures { BeatenFor C.eq (H.meaning host.now) shape.planes shape.side
@@ -107,7 +107,7 @@ fn resting_beats<C: Kind, H: Host<C>>(
     }
     let beside = beside_of(wounds);
     for _ in 0..times {
-        rest_strands(host, cells, shape, wounds, &beside);
+        beat_resting(host, cells, shape, wounds, &beside);
     }
 }
 
@@ -131,8 +131,8 @@ fn last_beat<C: Kind, H: Host<C>>(host: &H, cells: &mut [C], shape: Shape, wound
     beat_cells(host, cells, shape);
 }
 
-// Beats at least once and at most as often as told, and says how often: fewer times only where the wounds are not few any more. All wounds are among
-// these.
+// Beats at least once and at most as often as told, and says how often: fewer times only where the wounds come to be more than are `few`. All wounds
+// of the cells are among those handed in.
 pub(crate) fn quick_beats<C: Kind, H: Host<C>>(
     host: &H,
     cells: &mut [C],
@@ -142,7 +142,7 @@ pub(crate) fn quick_beats<C: Kind, H: Host<C>>(
     most: u32,
 ) -> u32
     requires cells { size_of shape.planes shape.side ≤ length cells.old }
-    requires most { 1 ≤ most }
+    requires some { 1 ≤ most }
     requires side { wounds.side ≡ shape.side }
     requires within { LineOutside (marks wounds) shape.planes shape.side cells.old }
     ensures some { 1 ≤ result }

@@ -1,5 +1,5 @@
 // The strands of wounds that rest: with the line written to the strands beside them, their votes read strands alone, a stretch in one sweep.
-ghost use Rattle.std.specs.Prelude.{◌≡◌, ℕ, ◌+◌, ◌-◌, ◌*◌, ◌<◌, ◌≤◌, true, length};
+ghost use Rattle.std.specs.Prelude.{◌≡◌, ℕ, ◌+◌, ◌*◌, ◌<◌, ◌≤◌, true, length};
 ghost use Rattle.toom.specs.Shadow.{marks};
 ghost use Rattle.toom.specs.Torus.{next};
 ghost use Rattle.plate.specs.Beside.{LineSpread, RepeatsLine};
@@ -13,8 +13,8 @@ use toom::kind::Kind;
 use toom::shadow::Shadow;
 use toom::shadow::stretches::Stretch;
 
-// Writes the line to so many strands, one after another. Each copy is of all that was written before: for a few strands' worth of cells it takes
-// longer to begin a copy than to end it.
+// Writes the line to `count` strands, one after another. Each `copy_within` doubles what is written, since to begin one takes longer than to move
+// the cells of a few strands.
 fn repeat_line<C: Kind>(cells: &mut [C], shape: Shape, to: usize, count: usize)
     requires some { 1 ≤ count }
     requires to { to + count * shape.planes ≤ 2 * (shape.planes * (shape.side * shape.side)) }
@@ -89,7 +89,7 @@ fn vote_part<C: Kind>(cells: &mut [C], shape: Shape, stretch: Stretch, east: usi
 }
 
 // Votes the strands of a stretch. East of the last column is the first one: so it is voted apart.
-fn vote_stretch<C: Kind>(cells: &mut [C], shape: Shape, stretch: Stretch)
+fn vote_lying_stretch<C: Kind>(cells: &mut [C], shape: Shape, stretch: Stretch)
     requires cells { size_of shape.planes shape.side ≤ length cells.old }
     requires row { stretch.row < shape.side }
     requires some { 1 ≤ stretch.length }
@@ -134,6 +134,6 @@ pub(crate) fn vote_lying<C: Kind>(cells: &mut [C], shape: Shape, wounds: &Shadow
         cells.old cells.new }
 {
     for stretch in wounds.stretches() {
-        vote_stretch(cells, shape, stretch);
+        vote_lying_stretch(cells, shape, stretch);
     }
 }

@@ -1,4 +1,4 @@
-// The planes written out: from the line where nothing is wounded, else each copy as it is seen.
+// The planes written out: all copies from the line, and over them those of the wounds from their strands.
 ghost use Rattle.std.specs.Prelude.{◌≡◌, ◌+◌, ◌*◌, ◌<◌, ◌≤◌, length};
 ghost use Rattle.toom.specs.Shadow.{marks};
 ghost use Rattle.plate.specs.Layout.{size_of};
@@ -53,8 +53,7 @@ fn settle_wounds<C: Kind>(cells: &mut [C], shape: Shape, wounds: &Shadow)
 pub(crate) fn settle<C: Kind>(cells: &mut [C], shape: Shape, wounds: &Shadow)
     requires cells { size_of shape.planes shape.side ≤ length cells.old }
     requires side { wounds.now.side ≡ shape.side }
-    ensures { CopiesSettled (marks wounds.now) shape.planes shape.side
-        (λ i r c. r < shape.side) cells.old cells.new }
+    ensures { CopiesSettled (marks wounds.now) shape.planes shape.side cells.old cells.new }
 {
     write_planes(cells, shape, 0, 2 * shape.copies());
     settle_wounds(cells, shape, wounds);

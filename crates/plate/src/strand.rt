@@ -1,4 +1,4 @@
-// The strand of one place: its copies, plane after plane, one after another as the cells of the line are. It is voted and steps as the line does.
+// The strand of one place: its copies, plane after plane, one after another as the cells of the line are. It is voted, and steps as the line does.
 ghost use Rattle.std.specs.Prelude.{◌≡◌, ℕ, ◌+◌, ◌<◌, ◌≤◌, ◌⊎◌, length};
 ghost use Rattle.toom.specs.Shadow.{marks};
 ghost use Rattle.plate.specs.Layout.{size_of};

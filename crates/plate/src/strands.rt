@@ -76,8 +76,8 @@ fn step_each<C: Kind, H: Host<C>>(host: &H, cells: &mut [C], shape: Shape, stret
     }
 }
 
-// Steps them in one sweep, as if they were one strand, which takes least time where there are several. In it the ends of a strand have neighbours in
-// the strands beside it: so they are stepped again.
+// Steps the strands of a stretch in one sweep, as if they were one, which takes least time where there are several. In it the ends of a strand have
+// neighbours in the strands beside it: so they are stepped again.
 fn step_swept<C: Kind, H: Host<C>>(host: &H, cells: &mut [C], shape: Shape, stretch: Stretch)
     requires planes { 2 ≤ shape.planes }
     requires cells { size_of shape.planes shape.side ≤ length cells.old }
@@ -104,7 +104,7 @@ fn step_stretch<C: Kind, H: Host<C>>(host: &H, cells: &mut [C], shape: Shape, st
     ensures { StrandsStepped (H.meaning host.now) shape.planes shape.side (InStretch stretch)
         cells.old cells.new }
 {
-    if shape.planes < 2 || stretch.length < 2 {
+    if shape.planes < 3 || stretch.length < 2 {
         step_each(host, cells, shape, stretch);
     } else {
         step_swept(host, cells, shape, stretch);

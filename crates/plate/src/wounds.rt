@@ -18,14 +18,14 @@ pub(crate) fn is_wound(wounds: &Shadow, row: usize, column: usize) -> bool
     wounds.holds(row, column).unwrap_or(false)
 }
 
-// To look for wounds once and to write the planes out takes as long as so many beats of all cells, and as so many cells of such a beat for each
-// plane, since each plane is looked at and written by itself.
+// To look for wounds once, and to write the planes out at the end, takes as long as this many beats of all cells.
 const LOOK: usize = 2;
 
+// And as this many cells of such a beat for each plane, since each is looked at and written by itself.
 const PLANE: usize = 35;
 
-// To begin a strand takes as long as so many cells of such a beat. Measured with bits, and wounds of which no two lie side by side in a row; of
-// machine cells, and of wounds that do, it is a small part of that.
+// To begin a strand takes as long as this many cells of such a beat. Measured with bits, and wounds of which no two lie side by side in a row; of
+// machine cells, and of wounds side by side that rest, it is a small part of that.
 const START: usize = 124;
 
 // With more wounds than this, so many beats of all cells take less time; none where they do so even without a wound.
@@ -33,9 +33,9 @@ pub(crate) fn most_wounds(shape: Shape, times: u32) -> Option<usize>
     requires { 1 ≤ times }
 {
     let copies = shape.copies();
-    let once = LOOK * copies + PLANE * shape.planes;
-    let room = copies.checked_sub(once / times as usize)?;
-    Some(room / (shape.planes + START))
+    let price = LOOK * copies + PLANE * shape.planes;
+    let left = copies.checked_sub(price / times as usize)?;
+    Some(left / (shape.planes + START))
 }
 
 // Whether all cells are this one. It reads them all, for then many are compared at once.

@@ -17,7 +17,7 @@ const MOST: usize = 40;
 
 const CELLS: usize = 5200;
 
-// Sides and planes. Lines of wounds are few on the last three, if the beats are many; on the two before them a pair of places is, and on the first
+// Sides and planes. Where the beats are many, lines of wounds are few on the last three plates, on the two before them a pair of places, and on the first
 // three not even a lone one.
 const SHAPES: [(usize, usize); 8] = [
     (2, 1),
@@ -30,7 +30,8 @@ const SHAPES: [(usize, usize); 8] = [
     (8, 40),
 ];
 
-// The places that are struck. Lines stay or move, a cross grows, and a pair of places and a lone one heal.
+// The places that are struck. A last row and a last column stay, an antidiagonal moves, a cross grows, a pair and a lone place heal, and all places are
+// many.
 #[derive(Clone, Copy)]
 enum Pattern {
     Row,
@@ -55,8 +56,8 @@ const PATTERNS: [Pattern; 7] = [
 impl Pattern {
     fn holds(self, side: usize, row: usize, column: usize) -> bool {
         match self {
-            Pattern::Row => row == 1,
-            Pattern::Column => column == 1,
+            Pattern::Row => row.saturating_add(1) == side,
+            Pattern::Column => column.saturating_add(1) == side,
             Pattern::Antidiagonal => row.saturating_add(column).saturating_add(1) == side,
             Pattern::Cross => row == 1 || column == 1,
             Pattern::Pair => row == 1 && column <= 1,
@@ -66,7 +67,8 @@ impl Pattern {
     }
 }
 
-// The first planes of the tape are laid, and the places of a pattern struck in one plane after another with cells that differ from it.
+// The first planes of the tape are laid, and the places of a pattern struck with cells that differ from it: each in the last plane, where the vote
+// leaves the lines, and in one that changes from place to place, so that copies side by side differ in other planes.
 #[derive(Clone, Copy)]
 struct Case {
     planes: usize,
@@ -98,8 +100,9 @@ fn wear<C: Kind>(rt: &impl Abort, plate: &mut Plate<'_, C>, case: Case) -> Resul
     for row in 0..side {
         for column in 0..side {
             if pattern.holds(side, row, column) {
-                let plane = (row + column) % planes;
-                plate.strike(wound(plane, row, column, wrong[plane]))?;
+                for plane in [planes - 1, (row + column) % planes] {
+                    plate.strike(wound(plane, row, column, wrong[plane]))?;
+                }
             }
         }
     }

@@ -17,7 +17,7 @@ pub loop-preserved : goal.loop-preserved
 loop-preserved g c =
     let w = marks c.args.wounds.now in
     times_more g.C.PartialEq.eq (g.H.Host.meaning c.args.host.now) c.args.shape.planes c.args.shape.side c.loop.counter w c.args.cells.now w c.loop.cells
-    w c.rest_strands.new.cells c.loop.invariant c.rest_strands.ensures
+    w c.beat_resting.new.cells c.loop.invariant c.beat_resting.ensures
 
 pub returns : goal.returns
 returns g c =

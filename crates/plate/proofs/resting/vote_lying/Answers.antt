@@ -13,8 +13,8 @@ loop-stretch-preserved g c =
     let mid = c.loop-stretch.cells in
     let stays = c.loop-stretch.invariant.1.outside in
     stretch_more n side 0 (strand_at n side) (λ k p q d. voted g.C.PartialEq.eq side (seen (λ r q. true) old n side d k) p q) c.args.wounds.now c.requires.side c.loop-stretch.stretch-iterator c.next.new.self
-    c.loop-stretch.invariant.0 old mid c.loop-stretch.invariant.1 _ c.in-Some.stretch c.vote_stretch.new.cells c.in-Some.ensures.steps
-    c.vote_stretch.ensures (λ k p q d hk hp hq _. votes_stay g.C.PartialEq.eq n side (λ r q. true) old mid stays k p q d)
+    c.loop-stretch.invariant.0 old mid c.loop-stretch.invariant.1 _ c.in-Some.stretch c.vote_lying_stretch.new.cells c.in-Some.ensures.steps
+    c.vote_lying_stretch.ensures (λ k p q d hk hp hq _. votes_stay g.C.PartialEq.eq n side (λ r q. true) old mid stays k p q d)
 
 pub returns : goal.returns
 returns g c =
@@ -23,8 +23,8 @@ returns g c =
     stretches_done n side 0 (strand_at n side) _ c.args.wounds.now c.requires.side c.loop-stretch.stretch-iterator c.next.new.self
     c.loop-stretch.invariant.0 c.args.cells.now c.loop-stretch.cells c.loop-stretch.invariant.1 c.in-None.ensures.steps
 
-pub vote_stretch-requires : goal.vote_stretch-requires
-vote_stretch-requires g c =
+pub vote_lying_stretch-requires : goal.vote_lying_stretch-requires
+vote_lying_stretch-requires g c =
     let first = first_of c.args.wounds.now c.loop-stretch.stretch-iterator c.next.new.self c.loop-stretch.invariant.0 c.in-Some.stretch c.in-Some.ensures.steps in
     record {
       cells = omega arith;

@@ -1,25 +1,21 @@
-use Rattle.std.proofs.Common.{◌≡◌, ℕ, ◌+◌, ◌*◌, ◌<◌, ◌≤◌, get_or, sym, ap, ◌∙◌, inl, arith, mul-le-mul_right, add-mul, mul_comm, true}
+use Rattle.std.proofs.Common.{◌≡◌, ℕ, ◌+◌, ◌*◌, ◌<◌, get_or, sym, ap, ◌∙◌, inl, arith, add-mul, true}
 use Rattle.toom.specs.Torus.{next}
 use Rattle.toom.specs.Vote.{vote_of, voted}
 use Rattle.plate.specs.Sweep.{HostAnswers}
 use Rattle.plate.specs.Wounds.{seen}
 use Rattle.plate.proofs.Sweeps.{three}
 use Rattle.plate.proofs.SweptPlaces.{next_below}
-use Rattle.plate.proofs.WrittenPlaces.{strands_within, strands_written}
+use Rattle.plate.proofs.WrittenPlaces.{places_within, strands_within, strands_written}
 use Rattle.plate.proofs.resting.vote_part.Goals as goal
-
-easts_within : (n side east count : ℕ) → east + count ≤ side * side → east * n + count * n ≤ n * (side * side)
-easts_within n side east count h =
-    omega (arith, add-mul east count n, mul_comm n (side * side), mul-le-mul_right {m = east + count} {n = side * side} n h)
 
 pub overflow_mul-east : goal.overflow_mul-east
 overflow_mul-east g c =
-    let east = easts_within c.args.shape.planes c.args.shape.side c.args.east c.args.stretch.length c.requires.within in
+    let east = places_within c.args.shape.planes c.args.shape.side c.args.east c.args.stretch.length c.requires.within in
     omega (arith, east, c.requires.cells)
 
 pub overflow_add-strands-2 : goal.overflow_add-strands-2
 overflow_add-strands-2 g c =
-    let east = easts_within c.args.shape.planes c.args.shape.side c.args.east c.args.stretch.length c.requires.within in
+    let east = places_within c.args.shape.planes c.args.shape.side c.args.east c.args.stretch.length c.requires.within in
     omega (arith, east, c.copies-strands.ensures, c.requires.cells)
 
 pub fill-requires : goal.fill-requires
@@ -30,7 +26,7 @@ fill-requires g c =
     let own = strands_within n side x.row x.column x.length c.requires.row c.requires.columns in
     let up : c.after.result < side = omega (arith, c.after.ensures, next_below side x.row c.requires.row) in
     let north = strands_within n side c.after.result x.column x.length up c.requires.columns in
-    let east = easts_within n side c.args.east x.length c.requires.within in
+    let east = places_within n side c.args.east x.length c.requires.within in
     record {
       to = omega (arith, own);
       a = omega (arith, north, c.copies-strands.ensures);

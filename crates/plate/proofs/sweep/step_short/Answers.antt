@@ -2,7 +2,8 @@ use Rattle.std.proofs.Common.{◌≡◌, ◌+◌, get_or, sym, ap, ◌∙◌, su
 use Rattle.hosts.specs.Ring.{right_of}
 use Rattle.hosts.proofs.Rings.{right_below}
 use Rattle.plate.specs.Sweep.{Steps, Swept}
-use Rattle.plate.proofs.ShortRings.{left_after, right_inner}
+use Rattle.plate.proofs.Rings.{right_more}
+use Rattle.plate.proofs.ShortRings.{left_after}
 use Rattle.plate.proofs.Sweeps.{apart_out, swept_more, swept_none, three}
 use Rattle.plate.proofs.sweep.step_short.Goals as goal
 
@@ -34,7 +35,7 @@ loop-i-preserved g c =
           (swept_more to i (Steps host from n old) old mid c.answer.result swept (omega arith)
           (λ d. c.answer.ensures ∙ three host (c.loop-i.invariant.1 d) (c.loop-i.invariant.2 below d) (next d))),
       λ d. c.loop-i.invariant.2 below d ∙ ap (λ m. get_or old (from + m) d) (sym (left_after n i)),
-      λ more d. next d ∙ ap (λ m. get_or old (from + m) d) (right_inner n i more),
+      λ more d. next d ∙ ap (λ m. get_or old (from + m) d) (right_more n i more),
     )
 
 pub returns : goal.returns

@@ -3,7 +3,7 @@ use Rattle.std.proofs.lemmas.Bool.{cases_lt}
 use Rattle.toom.specs.Vote.{voted}
 use Rattle.plate.specs.Wounds.{seen, strand_at}
 use Rattle.plate.proofs.WrittenPlaces.{votes_stay, written_join, written_same}
-use Rattle.plate.proofs.resting.vote_stretch.Goals as goal
+use Rattle.plate.proofs.resting.vote_lying_stretch.Goals as goal
 
 pub returns-then-inner-stretch : goal.returns-then-inner-stretch
 returns-then-inner-stretch g c =

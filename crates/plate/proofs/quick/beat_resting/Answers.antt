@@ -2,7 +2,7 @@ use Rattle.std.proofs.Common.{arith}
 use Rattle.toom.specs.Shadow.{marks}
 use Rattle.plate.proofs.RestingBeats.{stand_spread, voted_lying}
 use Rattle.plate.proofs.WoundBeats.{beaten_for}
-use Rattle.plate.proofs.quick.rest_strands.Goals as goal
+use Rattle.plate.proofs.quick.beat_resting.Goals as goal
 
 pub returns : goal.returns
 returns g c =
