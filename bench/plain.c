@@ -560,7 +560,7 @@ static void write_plate(void)
 
 /* ---------------------------------------------------------------- the report */
 
-/* The cell that more than half of the copies of a plane are, or -1. */
+/* The majority of a plane, or -1 if it has none. */
 static int majority(const cell *plane)
 {
     unsigned counts[256] = {0};

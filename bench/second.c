@@ -202,7 +202,7 @@ static struct refusal ask_run(const struct round *round)
     if (round->script_length % RECORD != 0 || round->script_length > MOST_SCRIPT)
         return refuse(11, "run", 0);
 
-    unsigned before = 0; /* the number of the record before; record 0 has none, and passes 14 */
+    unsigned before = 0; /* the number that the last record had; record 0 has none before it, and passes 14 */
     for (size_t i = 0; i < round->script_length / RECORD; i++) {
         struct record record = read_record(round, i);
         if (record.zeros != 0)
@@ -253,7 +253,7 @@ static cell answer_machine(const struct host *host, cell left, cell centre, cell
     const struct entry *of_centre = entry_of(host, centre);
     const struct entry *of_right = entry_of(host, right);
 
-    /* A foreign centre is answered unchanged. */
+    /* A foreign centre stays what it is. */
     if (centre / 16 != 0 && of_centre == NULL)
         return centre;
 
@@ -350,7 +350,7 @@ static unsigned right_of(unsigned i)
     return i == plate.planes - 1 ? 0 : i + 1;
 }
 
-/* Votes one plane: the north cell if north and east are the same, else the own cell. */
+/* Votes one plane: where north and east are equal they win, and elsewhere the own cell stays. */
 static void vote_plane(const cell *old, cell *voted)
 {
     for (unsigned r = 0; r < plate.side; r++)
@@ -378,11 +378,11 @@ static void beat(const struct host *host)
 {
     unsigned places = plate.side * plate.side;
 
-    /* 1. Every place of every plane is voted. */
+    /* 1. The votes go to the voted copies. */
     for (unsigned i = 0; i < plate.planes; i++)
         vote_plane(plane_of(plate.copies, i), plane_of(plate.voted, i));
 
-    /* 2. Each copy becomes the host's answer to the three voted copies at its place. */
+    /* 2. The copies step, each from the voted copies of three planes at its place. */
     for (unsigned i = 0; i < plate.planes; i++) {
         const cell *left = plane_of(plate.voted, left_of(i));
         const cell *centre = plane_of(plate.voted, i);
@@ -392,7 +392,7 @@ static void beat(const struct host *host)
             copies[place] = answer(host, left[place], centre[place], right[place]);
     }
 
-    /* 3. The line moves to the earlier line, and a new line is made from it. */
+    /* 3. The line steps, and what it was is kept as the earlier line. */
     memcpy(plate.earlier, plate.line, plate.planes);
     for (unsigned i = 0; i < plate.planes; i++)
         plate.line[i] = answer(host, plate.earlier[left_of(i)], plate.earlier[i], plate.earlier[right_of(i)]);
@@ -400,7 +400,7 @@ static void beat(const struct host *host)
     /* 4. The shadow is voted. */
     vote_shadow();
 
-    /* 5. The age rises by 1. */
+    /* 5. One beat older. */
     plate.age++;
 }
 
@@ -430,7 +430,7 @@ static unsigned map_at(size_t place)
     return differ;
 }
 
-/* The byte of the cell that more than half of the plane's copies are, or -1. */
+/* The byte of the plane's majority, or -1 if it has none. */
 static int majority(unsigned plane)
 {
     unsigned places = plate.side * plate.side;

@@ -8,6 +8,6 @@ use Rattle.toom.specs.Bit.{byte_of_bit}
 abbrev pub bit_number : (left centre right : Bit) → ℕ
 bit_number left centre right = 4 * byte_of_bit left + 2 * byte_of_bit centre + byte_of_bit right
 
--- Rule w answers that bit of w, bit 0 the lowest.
+-- Rule w answers the binary digit of w that counts 2 to the power of that number.
 abbrev pub wolfram : (w : ℕ) → (left centre right : Bit) → Bit
 wolfram w left centre right = cond (w / 2 ^ bit_number left centre right % 2 == 1) One Zero

@@ -1,5 +1,5 @@
--- The machine file: Q in the first four bits, S - 1 in the next four; then two bytes an entry, of next state 4, symbol 4, move 2 and zeros 6 bits,
--- state 1 first, symbols rising within a state.
+-- The machine file: a byte with the two sizes, Q its first digit and S - 1 its second; then an entry of two bytes for each state and symbol. An entry
+-- has four bits of next state, four of symbol, two of move and six that have to be 0. The entries of a state stand together, by their symbols.
 use Rattle.std.specs.Prelude.{◌≡◌, ℕ, zero, suc, ◌+◌, ◌-◌, ◌*◌, ◌/◌, ◌%◌, ◌<◌, true, cond, ◌&&◌, List, map, length, Some, None, codes, Option, ◌==◌, nat_le, nat_lt, slice_index}
 use Rattle.std.proofs.Common.{lit<}
 use Rattle.std.proofs.Math.Nat.{mod-lt}

@@ -14,11 +14,11 @@ use Rattle.hosts.specs.Table.{has_entry, blank, slot, motion_code}
 abbrev pub entry_at : Machine → (state symbol : ℕ) → Entry
 entry_at m state symbol = unwrap_or (slot m.table (16 * state + symbol)) blank
 
--- A cell is live if its head is a state of the machine and its symbol one of the machine's symbols.
+-- A live cell is one that has an entry: its head is a state of this machine, and its symbol one of the machine's.
 abbrev pub live : Machine → MachineCell → Bool
 live m x = has_entry m.states m.symbols (head_of_cell x) (symbol_of_cell x)
 
--- A cell is foreign if it has a head and isn't live.
+-- A foreign cell has a head, and no entry.
 abbrev pub foreign : Machine → MachineCell → Bool
 foreign m x = not (head_of_cell x == 0) && not (live m x)
 
@@ -31,7 +31,7 @@ abbrev pub moving : Motion → Option Entry → Option Entry
 moving motion None = None
 moving motion (Some e) = cond (motion_code e.motion == motion_code motion) (Some e) None
 
--- The head that arrives: that of the centre if it stays, else of the left cell if it moves right, else of the right cell if it moves left.
+-- The head that arrives. It has three ways, and the first that is open counts: to stay in the centre, to come from the left, to come from the right.
 abbrev pub arriving : (left centre right : Option Entry) → Option Entry
 arriving left centre right = option_or (moving Stay centre) (option_or (moving Right left) (moving Left right))
 

@@ -1,4 +1,5 @@
--- Refusals: a number, a word and a place, which is 0 where none is named. Questions are asked in order; the first that fails gives the refusal.
+-- Refusals and questions. A refusal says by its number which question failed, by its word whose that is, and by its place where, or 0. Of a row of
+-- questions the first that fails counts.
 use Rattle.std.specs.Prelude.{ℕ, zero, suc, Bool, cond, List, Some, None, Option}
 use Rattle.std.specs.Option.{option_or}
 

@@ -1,4 +1,4 @@
--- A ring of n places: left of place 0 is place n - 1, and right of place n - 1 is place 0.
+-- A ring of n places, which closes: place n - 1 is the one before place 0.
 use Rattle.std.specs.Prelude.{ℕ, zero, suc, ◌+◌, ◌-◌, cond, ◌==◌}
 
 abbrev pub left_of : (n i : ℕ) → ℕ

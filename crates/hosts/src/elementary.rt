@@ -8,7 +8,7 @@ use toom::kind::Kind;
 
 #[derive(Clone, Copy)]
 pub struct Elementary {
-    // Wolfram's number W, from 0 to 255: bit 4 × left + 2 × centre + right of it is the answer.
+    // Wolfram's number. Its eight bits are the eight answers: left, centre and right, read in binary, say which one.
     pub rule: u8,
 }
 

@@ -1,4 +1,4 @@
-// A host: a function of three cells of one kind, left, centre and right, that gives one cell.
+// A host: the rule by which a cell steps, from what it is itself and what its two neighbours are.
 ghost use Rattle.std.specs.Prelude.{◌≡◌};
 
 pub trait Host<C> {

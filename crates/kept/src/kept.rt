@@ -1,4 +1,4 @@
-// The reader of a kept file: each call gives the next round, in the caller's own bytes.
+// The reader of a kept file: each call gives the next round, as parts of the caller's slice.
 ghost use Rattle.std.specs.Prelude.{◌≡◌, length};
 ghost use Rattle.std.specs.Iterator.{at_most};
 ghost use Rattle.kept.specs.KeptFile.{StringCut, RoundCut, PairsPin, Yields};

@@ -1,4 +1,4 @@
--- The two sweeps of the line's step: it moves to the earlier line, and steps from there.
+-- The two sweeps of the line's step: it is kept as the earlier line, and steps from there.
 use Rattle.std.proofs.Common.{◌≡◌, ℕ, ◌+◌, ◌*◌, List, get_or, ◌∙◌, inl, inr, arith}
 use Rattle.plate.specs.Layout.{earlier_at, line_at}
 use Rattle.plate.specs.Sweep.{Steps, Swept}

@@ -1,4 +1,4 @@
--- Two majorities of one list meet, so the cell that more than half of it are is its majority.
+-- Two majorities of one list meet: so if more than half of it are one cell, that cell is its majority.
 use Rattle.std.proofs.Common.{◌≡◌, ◌+◌, ◌*◌, ◌<◌, ◌≤◌, Bool, true, false, cond, List, [], ◌∷◌, length, Some, sym, ap, ◌∙◌, inl, inr, arith}
 use Rattle.std.proofs.lemmas.List.Sums.{sum_by-cons}
 use Rattle.std.proofs.lemmas.Bool.{both_ways, cases_Bool, cond_both}

@@ -33,8 +33,8 @@ voted_copies cells n side d i r c = slice_index_or cells (voted_at n side i r c)
 abbrev pub line : {C : Type 0} → List C → (n side : ℕ) → C → ℕ → C
 line cells n side d i = slice_index_or cells (line_at n side i) d
 
--- Every place of every plane is voted from the old copies; each copy becomes the host's answer to the voted copies of the left plane, its own and
--- the right plane at its place; the line moves to the earlier line, and the new line is the host's answer over the old one.
+-- The voted copies are the votes of the old copies. The copies are what the host answers at each place to the voted copies of a plane and of the two
+-- planes beside it. The earlier line is the old line, and the line what the host answers along it.
 pub record CellsBeaten {C : Type 0} (equal : C → C → Bool) (host : C → C → C → C) (n side : ℕ) (before after : List C) : Type 0 where
   pub votes : (i r c : ℕ) (d : C) → i < n → r < side → c < side
       → voted_copies after n side d i r c ≡ voted equal side (copies before side d i) r c
@@ -45,7 +45,7 @@ pub record CellsBeaten {C : Type 0} (equal : C → C → Bool) (host : C → C �
   pub beyond : (k : ℕ) (d : C) → size_of n side ≤ k → slice_index_or after k d ≡ slice_index_or before k d
   pub long : length after ≡ length before
 
--- Besides, the shadow is voted, and the age rises by 1.
+-- Besides, the shadow is voted, and the age is one more.
 pub record Beats {C : Type 0} (equal : C → C → Bool) (host : C → C → C → C) (before after : Board C) : Type 0 where
   pub stood : Laid
   pub kept : Laid

@@ -74,6 +74,6 @@ pub record Healing {C : Type 0} (k : Members C) (h : History C) (b : Board C) : 
       → (before after : List ℕ) (accepted : Bool) (b' : Board C) → Outcome k (Read before after) accepted b b' → p.n ≤ length before
       → (accepted ≡ true) × FaultlessTape k p after
 
--- After every list of calls on one new plate, in any order and number, accepted or refused.
+-- Whatever calls were made since the plate was new, in any order and number, accepted or refused.
 abbrev pub AlwaysHeals : {C : Type 0} → Members C → Type 0
 AlwaysHeals {C} k = (h : History C) (b : Board C) → Reached k h b → Healing k h b

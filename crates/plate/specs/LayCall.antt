@@ -26,7 +26,7 @@ lay_questions named n side tape memory =
     (ask (nat_le (size_of n side) memory) (lay_refusal 4 0)
     (ask_each (tape_questions named tape) n))))
 
--- Every copy and voted copy of plane i, and cell i of both lines, is the cell that byte i of the tape names; the rest of the memory stays.
+-- The cell of the tape's byte i is in all copies and voted copies of plane i, and at i in the line and in the earlier line. All other memory stays.
 pub record CellsLaid {C : Type 0} (named : ℕ → Option C) (n side : ℕ) (tape : List ℕ) (before after : List C) : Type 0 where
   pub copies : (i r c : ℕ) (d : C) → i < n → r < side → c < side → Some (slice_index_or after (copy_at side i r c) d) ≡ named (slice_index tape i)
   pub voted : (i r c : ℕ) (d : C) → i < n → r < side → c < side → Some (slice_index_or after (voted_at n side i r c) d) ≡ named (slice_index tape i)
@@ -35,7 +35,7 @@ pub record CellsLaid {C : Type 0} (named : ℕ → Option C) (n side : ℕ) (tap
   pub beyond : (k : ℕ) (d : C) → size_of n side ≤ k → slice_index_or after k d ≡ slice_index_or before k d
   pub long : length after ≡ length before
 
--- Besides, the shadow is empty and the age 0.
+-- Besides, no place is marked, and the age is 0.
 pub record Lays {C : Type 0} (named : ℕ → Option C) (n side : ℕ) (tape : List ℕ) (before after : Board C) : Type 0 where
   pub kept : Laid
   pub stands : after.laid ≡ Some kept

@@ -1,4 +1,5 @@
--- The plain machine: fed with the calls and their acceptance alone, it keeps the shape, the faultless run and the shadow. It never sees a copy.
+-- The plain machine. It is told which calls are made and which of them are accepted, and never sees a copy. It has a shape, a faultless run and a
+-- shadow.
 use Rattle.std.specs.Prelude.{◌≡◌, ℕ, ◌*◌, ◌<◌, Bool, List, true, false, [], ◌∷◌, Some, None, Option, slice_index}
 use Rattle.std.specs.Option.{option_map}
 use Rattle.toom.specs.Shadow.{no_marks, with_mark}
@@ -19,7 +20,7 @@ pub record Plain (C : Type 0) : Type 0 where
 abbrev pub FewerThanHalf : {C : Type 0} → Plain C → Type 0
 FewerThanHalf p = 2 * count_marks p.side p.shadow < p.side * p.side
 
--- The faultless tape has the byte of each cell of the faultless run.
+-- The faultless tape: its byte i is that of cell i of the faultless run.
 abbrev pub FaultlessTape : {C : Type 0} → Members C → Plain C → (tape : List ℕ) → Type 0
 FaultlessTape k p tape = (i : ℕ) → i < p.n → option_map k.byte (p.run i) ≡ Some (slice_index tape i)
 
@@ -47,7 +48,7 @@ after_call k (Read before after) p = p
 after_call k (Map before after) p = p
 after_call k (Show before after) p = p
 
--- Refused calls change nothing. Before the first accepted lay there is no plain machine.
+-- Only accepted calls count. Before the first accepted lay there is no plain machine.
 abbrev pub plain : {C : Type 0} → Members C → History C → Option (Plain C)
 plain k [] = None
 plain k ((call, true) ∷ h) = after_call k call (plain k h)

@@ -15,14 +15,14 @@ abbrev pub majority_among : {C : Type 0} → (C → C → Bool) → (cells candi
 majority_among equal cells [] = None
 majority_among equal cells (x ∷ xs) = cond (nat_lt (length cells) (2 * holders equal x cells)) (Some x) (majority_among equal cells xs)
 
--- The cell that more than half of the cells are, if there is one. There is at most one.
+-- The majority: the cell of which there are more than of all others together, if there is one. There is at most one.
 abbrev pub majority_of : {C : Type 0} → (C → C → Bool) → List C → Option C
 majority_of equal cells = majority_among equal cells cells
 
 abbrev pub read_refusal : (number place : ℕ) → Refusal
 read_refusal number place = record { number = number; word = codes "read"; place = place }
 
--- Has plane i a cell that more than half of its copies are?
+-- Has plane i a majority?
 abbrev pub plane_question : {C : Type 0} → (C → C → Bool) → (cells : List C) → (side i : ℕ) → Option Refusal
 plane_question equal cells side i = ask (is_some (majority_of equal (plane_of cells side i))) (read_refusal 16 i) None
 

@@ -23,7 +23,7 @@ strike_questions_of named (Some l) plane row column byte = place_questions named
 abbrev pub strike_questions : {C : Type 0} → (named : ℕ → Option C) → Board C → (plane row column byte : ℕ) → Option Refusal
 strike_questions named b = strike_questions_of named (standing b)
 
--- The one copy becomes the cell that the byte names, and its place enters the shadow. All else stays.
+-- That copy is now the cell of the byte, and its place is marked in the shadow. All else stays.
 pub record Strikes {C : Type 0} (named : ℕ → Option C) (plane row column byte : ℕ) (before after : Board C) : Type 0 where
   pub stood : Laid
   pub kept : Laid

@@ -92,7 +92,7 @@ abbrev pub StrandsSettled : {C : Type 0} → (n side : ℕ) → (among : (i r c 
 StrandsSettled n side among before after =
     PlacesWritten n side 0 (copy_at side) among (λ i r c d. slice_index_or before (kept_at n side i r c) d) before after
 
--- The line moves to the earlier line and is stepped; all else stays.
+-- The line is kept as the earlier line, and has stepped from there; all else stays.
 pub record LineSteps {C : Type 0} (host : C → C → C → C) (n side : ℕ) (before after : List C) : Type 0 where
   pub earlier : (i : ℕ) (d : C) → i < n → slice_index_or after (earlier_at n side i) d ≡ line before n side d i
   pub lines : (i : ℕ) (d : C) → i < n → line after n side d i ≡ stepped host n (line before n side d) i

@@ -25,7 +25,7 @@ fn check_tape<C: Kind>(tape: &[u8]) -> Result<(), LayFault>
     Ok(())
 }
 
-// The empty shadow of the plate that this lay would make, or the first question that fails.
+// The first question of a lay that fails; or, if none does, the empty shadow that the lay would begin with.
 pub fn check_lay<C: Kind>(
     planes: usize,
     side: usize,

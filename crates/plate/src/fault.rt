@@ -43,7 +43,7 @@ pub enum ReadFault {
     Bare,
     // The output is too short.
     Output,
-    // This plane, from 0, has no cell that more than half of its copies hold.
+    // This plane, from 0, has no majority.
     Majority { plane: usize },
 }
 

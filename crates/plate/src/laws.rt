@@ -8,8 +8,8 @@ use crate::fault::{BeatFault, LayFault, MapFault, ReadFault, ShadowFault, Strike
 use crate::strike::Strike;
 use toom::kind::Kind;
 
-// For every kind of cell, after every list of calls on one new plate, each beat with a host of its own: outside the shadow the copies are the
-// faultless run's, a shadow in a triangle shrinks with each beat, and a shadow of fewer than half of the places does not harm the reading.
+// Whatever the kind of cell, the calls since a plate was new, and the host of each beat: outside the shadow the copies are the faultless run's, a
+// shadow in a triangle shrinks with each beat, and a shadow of fewer than half of the places does not harm the reading.
 pub fn always_heals<C: Kind>()
     ensures { AlwaysHeals (members C.eq C.byte_of C.cell_of) }
 {}

@@ -1,10 +1,10 @@
-// The cell that more than half of the cells are, in two passes and with no table.
+// The majority of cells, in two passes and with no table.
 ghost use Rattle.std.specs.Prelude.{◌≡◌, ◌*◌, ◌<◌, length};
 ghost use Rattle.plate.specs.ReadCall.{holders, majority_of};
 
 use toom::kind::Kind;
 
-// The only cell that more than half of the cells can be: unlike cells are paired off, and it is what is left over.
+// The only cell that can be the majority: unlike cells are paired off, and it is what is left over.
 fn candidate<C: Kind>(plane: &[C], first: C) -> C
     ensures { (x : C) → length plane.now < 2 * holders C.eq x plane.now → x ≡ result }
 {

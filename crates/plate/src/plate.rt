@@ -1,4 +1,4 @@
-// The plate: cells that its maker hands in, and what it keeps beside them once it is laid.
+// The plate: cells that are lent to it, and what it keeps beside them once it is laid.
 use crate::laid::Laid;
 
 pub mod calls;

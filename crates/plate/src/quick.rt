@@ -19,7 +19,7 @@ use toom::kind::Kind;
 use toom::laws::vote_heals;
 use toom::shadow::Shadow;
 
-// The line moves to the earlier line and steps from it.
+// The line is kept as the earlier line, and steps from there.
 fn step_line<C: Kind, H: Host<C>>(host: &H, cells: &mut [C], shape: Shape)
     requires { size_of shape.planes shape.side ≤ length cells.old }
     ensures { LineSteps (H.meaning host.now) shape.planes shape.side cells.old cells.new }

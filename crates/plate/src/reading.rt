@@ -1,5 +1,5 @@
-// The reading of a plate: of each plane, the cell that more than half of its copies are. Shape and memory are two parameters, as in all sweeps: a
-// struct of both for those that only read would be one more type beside them.
+// The reading of a plate: the majority of each plane. Shape and memory are two parameters, as in all sweeps: a struct of both for those that only
+// read would be one more type beside them.
 ghost use Rattle.std.specs.Prelude.{◌≡◌, ◌≤◌, ◌++◌, length, drop};
 ghost use Rattle.std.specs.Option.{option_map};
 ghost use Rattle.hosts.specs.Refusal.{ask_each};

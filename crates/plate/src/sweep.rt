@@ -283,7 +283,7 @@ pub(crate) fn step_ring<C: Kind, H: Host<C>>(
     }
 }
 
-// One beat of the cells: all planes are voted, the copies step from the votes, and the line moves to the earlier line and steps from it.
+// One beat of the cells: all planes are voted, the copies step from the votes, and the line is kept as the earlier line and steps from there.
 pub(crate) fn beat_cells<C: Kind, H: Host<C>>(host: &H, cells: &mut [C], shape: Shape)
     requires { size_of shape.planes shape.side ≤ length cells.old }
     ensures { CellsBeaten C.eq (H.meaning host.now) shape.planes shape.side cells.old cells.new }

@@ -31,7 +31,7 @@ shadow_mark = 115
 abbrev pub clear_mark : ℕ
 clear_mark = 46
 
--- `#` at a place where the map is not 0, else `s` in the shadow, else `.`.
+-- The mark of a place with so many hurt copies: `#` if there are any; if there are none, `s` for a place in the shadow and `.` for any other.
 abbrev pub place_mark : (hurt : ℕ) → (shadowed : Bool) → ℕ
 place_mark hurt shadowed = cond (nat_lt 0 hurt) hurt_mark (cond shadowed shadow_mark clear_mark)
 

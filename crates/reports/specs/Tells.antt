@@ -35,7 +35,7 @@ pub record ReportTells {C : Type 0} (k : Members C) (p : Plain C) (l : Laid) (ce
   -- While the shadow covers fewer than half of the places, the last line is the faultless tape.
   pub tape_faultless : FewerThanHalf p → (tape : List ℕ) → length tape ≡ l.planes → FaultlessTape k p tape → last_of k l cells ≡ tape_line tape
 
--- After every list of calls on one new plate that leaves it laid. d stands for what lies past the memory.
+-- Whatever calls were made since the plate was new, if they leave it laid. d stands for what lies past the memory.
 abbrev pub ReportsTell : {C : Type 0} → Members C → Type 0
 ReportsTell {C} k =
     (h : History C) (b : Board C) (p : Plain C) (l : Laid) (d : C) → Reached k h b → plain k h ≡ Some p → standing b ≡ Some l

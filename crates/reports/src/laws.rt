@@ -26,7 +26,7 @@ pub fn report_tells<C: Kind>()
     ensures { ReportsTell (members C.eq C.byte_of C.cell_of) }
 {}
 
-// The healing laws hold after every list of calls on one new plate, runs and reports among them.
+// The healing laws hold whatever calls were made since a plate was new, runs and reports among them.
 pub fn session_heals<C: Kind>()
     ensures { SessionHeals (members C.eq C.byte_of C.cell_of) }
 {}

@@ -28,7 +28,7 @@ pub record Entrant (C H : Type 0) : Type 1 where
 abbrev pub entrant : {C H : Type 0} → FileKind → (List ℕ → Option Refusal) → (List ℕ → H → Type 0) → (H → C → C → C → C) → Entrant C H
 entrant kind questions in_bytes meaning = record { kind = kind; questions = questions; in_bytes = in_bytes; meaning = meaning }
 
--- The file's questions, the report's, the host's, lay's; and run's, for the plate that this lay would make. `memory` and `room` are the lengths of
+-- The file's questions, the report's, the host's, lay's; and run's, of the plate as this lay would leave it. `memory` and `room` are the lengths of
 -- memory and output.
 abbrev pub play_questions : {C H : Type 0} → Members C → Entrant C H → (file : List ℕ) → (memory room : ℕ) → Option Refusal
 play_questions k e file memory room =

@@ -55,7 +55,7 @@ fn perform<C: Kind, H: Entry<C>>(
 }
 
 // Plays the round of a file over this memory, and writes its report at the front of the output. Answers the report's length. All questions
-// come first: a refused play leaves memory and output as they were.
+// come first: a refused play changes neither memory nor output.
 pub fn play<C: Kind, H: Entry<C>>(
     memory: &mut [C],
     file: &[u8],

@@ -1,4 +1,4 @@
-// What a run does: its strikes and beats one by one, the order of records, the age, and two halves.
+// Whole runs: that they are their strikes and beats one by one, the order of records, the age, and two halves.
 use crate::Unbuilt;
 use crate::look::{CELLS, Look, PLANES, SIDE, check_same, look_at};
 use crate::records::{BEAVER, script, strike, wound};

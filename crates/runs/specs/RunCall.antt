@@ -18,7 +18,7 @@ run_refusal number place = record { number = number; word = codes "run"; place =
 abbrev pub at_place : (place : ℕ) → Refusal → Refusal
 at_place place r = record { number = r.number; word = r.word; place = place }
 
--- The questions of the record at index k. The number of the record before it is `before`. Those of its strike keep their number and word.
+-- The questions of the record at index k; the record just before it has the number `before`. What its strike asks has the strike's numbers and word.
 abbrev pub record_asked : {C : Type 0} → (named : ℕ → Option C) → (n side beats before k : ℕ) → Record → Option Refusal
 record_asked named n side beats before k r =
     ask (r.spare == 0) (run_refusal 12 k)

@@ -4,7 +4,7 @@ use Rattle.runs.specs.declared.record.Record.{Record}
 use Rattle.runs.specs.declared.script.Script.{Script}
 use Rattle.runs.specs.Bytes.{number_at}
 
--- The fields of 64 bits, from the highest: number 20, plane 12, row 6, column 6, byte 8, and 12 that have to be zero.
+-- The fields of 64 bits, from the highest: 20 of number, 12 of plane, 6 of row, 6 of column, 8 of byte, and 12 that have to be zero.
 abbrev pub record_of : (word : ℕ) → Record
 record_of word = record {
   number = word / 2 ^ 44;

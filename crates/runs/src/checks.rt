@@ -22,7 +22,7 @@ struct Bounds {
 }
 
 impl Bounds {
-    // Asks the questions of one record. `before` is the number of the record before.
+    // Asks the questions of one record. The record just before it has the number `before`.
     fn check_record<C: Kind>(
         self,
         before: u32,

@@ -54,8 +54,8 @@ fn try_run<C: Kind, H: Host<C>>(
     play(plate, host, script, beats)
 }
 
-// Beats as often as told, and strikes on the way: a record of number 0 before the first beat, one of number b after beat b, those of one
-// number in script order.
+// Beats as often as told, and strikes on the way: a record's number says how many of the beats come before it, and where several have the same
+// number, the script's order is kept.
 pub fn run<C: Kind, H: Host<C>>(
     plate: &mut Plate<'_, C>,
     host: &H,

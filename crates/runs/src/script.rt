@@ -1,4 +1,4 @@
-// The reader of a script: each call gives the next record, read in the caller's own bytes.
+// The reader of a script: each call gives the next record, decoded where it lies in the caller's slice.
 ghost use Rattle.std.specs.Prelude.{◌≡◌, ◌+◌, ◌-◌, ◌*◌, ◌≤◌, length};
 ghost use Rattle.runs.specs.Bytes.{number_at};
 ghost use Rattle.runs.specs.Script.{records_in, Yields};

@@ -1,5 +1,5 @@
--- The machine cell as a kind: a cell's head and symbol, when two cells are the same, a cell's byte, the head in its high four bits and the symbol in
--- its low four, and the cell of a byte.
+-- The machine cell as a kind: a cell's head and symbol, when two cells are the same, a cell's byte, which is 16 * head + symbol, and the cell of a
+-- byte.
 use Rattle.std.specs.Prelude.{◌≡◌, ℕ, ◌/◌, ◌%◌, Bool, Some, Option, ◌==◌}
 use Rattle.std.proofs.Common.{lit<}
 use Rattle.std.proofs.Math.Nat.{mod-lt}

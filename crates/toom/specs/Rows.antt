@@ -1,4 +1,4 @@
--- A row of bits in one 64-bit word, column 0 in the highest bit.
+-- A row of bits in one 64-bit word, from the highest bit down.
 use Rattle.std.specs.Prelude.{◌≡◌, ℕ, ◌-◌, ◌/◌, ◌%◌, ◌^◌, ◌<◌, ◌≤◌, Bool, cond, List, ◌==◌, slice_index}
 use Rattle.std.specs.Bool.{beq}
 use Rattle.toom.specs.Torus.{total, next}
@@ -8,7 +8,7 @@ use Rattle.toom.specs.Vote.{vote_of}
 abbrev pub column : (word c : ℕ) → Bool
 column word c = word / 2 ^ (63 - c) % 2 == 1
 
--- The word fits 64 bits, and its bits past column side - 1 are zero.
+-- The word fits 64 bits, and none of them is 1 but those of columns below the side.
 abbrev pub Narrow : (side word : ℕ) → Type 0
 Narrow side word = (word < 2 ^ 64) × (word % 2 ^ (64 - side) ≡ 0)
 

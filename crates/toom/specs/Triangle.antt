@@ -3,7 +3,7 @@ use Rattle.std.specs.Prelude.{◌≡◌, ℕ, ◌+◌, ◌-◌, ◌%◌, ◌<◌
 use Rattle.toom.specs.Torus.{Plane, Everywhere}
 use Rattle.toom.specs.Vote.{thinned_by}
 
--- The right triangle with corner (a, b) and side k: the places ((a + u) mod side, (b + v) mod side) with u + v below k.
+-- The place (r, c) is in the right triangle of side k at (a, b): u steps north and v steps east lead to it from there, for some u + v < k.
 abbrev pub InTriangle : (side a b k r c : ℕ) → Type 0
 InTriangle side a b k r c = (u : ℕ) × (v : ℕ) × (u + v < k) × (r ≡ (a + u) % side) × (c ≡ (b + v) % side)
 

@@ -3,7 +3,7 @@ use Rattle.std.specs.Prelude.{◌≡◌, ℕ, zero, suc, ◌+◌, ◌≤◌, Boo
 use Rattle.std.specs.Bool.{beq}
 use Rattle.toom.specs.Torus.{Plane, next, Everywhere}
 
--- The north cell if north and east are the same, else the place's own. `equal` tells whether two cells are the same.
+-- Toom's vote: north, if `equal` says that east is the same cell; if not, the own cell.
 abbrev pub vote_of : {C : Type 0} → (C → C → Bool) → (north east own : C) → C
 vote_of equal north east own = cond (equal north east) north own
 

@@ -20,7 +20,7 @@ pub trait Kind: Copy + Eq {
 
     ghost exact: { (x y : Self) → Self.eq x y ≡ true → x ≡ y };
 
-    // A cell's byte is a byte and names that cell; a byte that names a cell is that cell's byte.
+    // A cell's byte is one, below 256; and `byte_of` and `cell_of` undo each other, as far as a byte names a cell.
     ghost bounded: { (x : Self) → byte_of x < 256 };
 
     ghost readback: { (x : Self) → cell_of (byte_of x) ≡ Some x };

@@ -1,4 +1,4 @@
-// The machine cell as a kind: head in the high four bits of its byte, symbol in the low four.
+// The machine cell as a kind: its byte has the head for its first hexadecimal digit and the symbol for its second.
 ghost use Rattle.toom.specs.MachineCell.{byte_of_machine_cell, machine_cell_of_byte};
 ghost use Rattle.std.specs.Prelude.{Some};
 ghost use Rattle.std.proofs.lemmas.Bool.{eqb-true};

@@ -1,4 +1,4 @@
-// Rows of bits in 64-bit words, column 0 in the highest bit: the vote of a row, a mark in one, and its marked columns that stand one after another.
+// Rows of bits in 64-bit words, from the highest bit down: the vote of a row, a mark in one, and its marked columns that stand one after another.
 // A row is a plain word with the side beside it: a struct of both would keep the side once for each row.
 ghost use Rattle.std.specs.Prelude.{◌≡◌, ◌↔◌, ℕ, ◌<◌, ◌≤◌, IsTrue, ◌||◌, All, length, ◌==◌, slice_index};
 ghost use Rattle.std.specs.List.{sum_by};

@@ -1,4 +1,4 @@
-// The shadow: one plane of bits, the marked places of a torus, a 64-bit word a row.
+// The shadow: one plane of bits, the marked places of a torus, with a 64-bit word for each row.
 ghost use Rattle.std.specs.Prelude.{◌≡◌, ℕ, ◌≤◌, length, slice_index};
 ghost use Rattle.toom.specs.Rows.{Narrow};
 ghost use Rattle.toom.specs.Torus.{Side};
@@ -6,12 +6,12 @@ ghost use Rattle.toom.specs.Torus.{Side};
 pub mod calls;
 pub mod stretches;
 
-// The rows and columns that a torus may have. The vote of a place on a torus of one row would be of one cell; a row is one 64-bit word.
+// The rows and columns that a torus may have. The vote of a place on a torus of one row would be of one cell; and a row has to fit its word.
 pub const MIN_SIDE: usize = 2;
 
 pub const MAX_SIDE: usize = 64;
 
-// Column 0 is in the highest bit of a row. The bits past the side, and the rows past it, are zero: so a shadow is its side and its marked
+// A row begins with column 0 at its highest bit. The bits past the side, and the rows past it, are zero: so a shadow is its side and its marked
 // places, and nothing else. The rows are an array of the largest size, since nothing here allocates.
 #[derive(Clone, Copy, PartialEq, Eq)]
 pub struct Shadow {

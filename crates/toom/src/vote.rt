@@ -4,7 +4,7 @@ ghost use Rattle.toom.specs.Vote.{vote_of};
 
 use crate::kind::Kind;
 
-// The north cell if north and east are the same, else the place's own.
+// Toom's vote: north and east decide if they are the same cell; if not, the own cell stays.
 pub fn vote<C: Kind>(north: C, east: C, own: C) -> C
     ensures { result ≡ vote_of C.eq north east own }
 {

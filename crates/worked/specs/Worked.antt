@@ -26,7 +26,7 @@ pub record BeaverDoes (host : (left centre right : MachineCell) → MachineCell)
   -- It takes the ring 00 00 00 10 00 00 00 in six steps to 00 01 01 31 01 00 00.
   pub six_steps : machine_cells_after host 6 (0x00 ∷ 0x00 ∷ 0x00 ∷ 0x10 ∷ 0x00 ∷ 0x00 ∷ 0x00 ∷ [])
       ≡ 0x00 ∷ 0x01 ∷ 0x01 ∷ 0x31 ∷ 0x01 ∷ 0x00 ∷ 0x00 ∷ []
-  -- To left 10, centre 00, right 20 it answers 20: of two heads that arrive the left one enters.
+  -- Between 10 and 20 a centre 00 becomes 20: of two heads that arrive the left one enters.
   pub left_enters : byte_of_machine_cell (host (machine_cell 0x10) (machine_cell 0x00) (machine_cell 0x20)) ≡ 0x20
   -- Centre 45 is foreign, and stays 45 whatever its neighbours are.
   pub foreign_stays : (left right : MachineCell) → byte_of_machine_cell (host left (machine_cell 0x45) right) ≡ 0x45
@@ -37,9 +37,9 @@ pub record OnesOfSixteen (ones : ℕ) (cells : List Bit) : Type 0 where
   pub count : holders equal_bits One cells ≡ ones
 
 pub record WorkedExamples : Type 0 where
-  -- The vote of bits: north 01, east 01, own 00 votes 01.
+  -- A vote of bits: the own 00 gives way to 01, which is both north and east.
   pub bits_vote : byte_of_bit (vote_of equal_bits (bit 0x01) (bit 0x01) (bit 0x00)) ≡ 0x01
-  -- The vote of machine cells: north 21, east 30, own 01 votes 01.
+  -- A vote of machine cells: north 21 and east 30 differ, so the own 01 stays.
   pub machine_cells_vote :
       byte_of_machine_cell (vote_of equal_machine_cells (machine_cell 0x21) (machine_cell 0x30) (machine_cell 0x01)) ≡ 0x01
   -- Rule 110 takes the ring of eight bits 00000001 in one, two and three steps to 00000011, 00000111 and 00001101.
@@ -58,7 +58,7 @@ pub record WorkedExamples : Type 0 where
       → SameMarks 4 (thinned_by j 4 (marked ((0, 0) ∷ (0, 1) ∷ (0, 2) ∷ (0, 3) ∷ []))) (marked ((0, 0) ∷ (0, 1) ∷ (0, 2) ∷ (0, 3) ∷ []))
   -- Row 0 of the shadow of side 4 with its columns 0 and 1 is the word C000000000000000.
   pub row_of_two : row_word 4 (marked ((0, 0) ∷ (0, 1) ∷ []) 0) ≡ 0xC000_0000_0000_0000
-  -- The record 00 00 10 01 08 20 00 00: number 1, plane 1, row 2, column 2, byte 00, spare 0.
+  -- The record 00 00 10 01 08 20 00 00 strikes plane 1 at (2, 2) with 00 after beat 1, and its spare bits are 0.
   pub record_read : record_in (0x00 ∷ 0x00 ∷ 0x10 ∷ 0x01 ∷ 0x08 ∷ 0x20 ∷ 0x00 ∷ 0x00 ∷ []) 0
       ≡ record { number = 1; strike = record { plane = 1; row = 2; column = 2; byte = 0x00 }; spare = 0 }
   -- Side 4, bits, one plane of 16 copies that should be 0. With seven copies 1 the majority is 0, and the plane reads 00.

@@ -33,8 +33,8 @@ impl<'a, C: Kind> Plate<'a, C> {
             .filter(|laid| laid.shape().size() <= self.cells.len())
     }
 
-    // Every copy, voted copy and line cell becomes the cell that the tape names; the shadow is empty, the age 0. The shape is plain numbers, which
-    // may be none: that is asked.
+    // Copies, voted copies and both lines become the cells of the tape's bytes; no place is marked, and the age is 0. The shape is plain numbers,
+    // which may be none: that is asked.
     pub fn lay(&mut self, planes: usize, side: usize, tape: &[u8]) -> Result<(), LayFault>
         ensures outcome { Answers (members C.eq C.byte_of C.cell_of) lay_fault (Lay planes side tape.now) result (board self.old) (board self.new) }
         ensures heals { GoesOn (members C.eq C.byte_of C.cell_of) (Lay planes side tape.now) result (board self.old) (board self.new) }
@@ -43,7 +43,7 @@ impl<'a, C: Kind> Plate<'a, C> {
         self.try_lay(planes, side, tape)
     }
 
-    // One copy becomes the cell of the byte, and its place enters the shadow.
+    // One copy becomes the cell of the byte, and its place is marked in the shadow.
     pub fn strike(&mut self, strike: crate::strike::Strike) -> Result<(), StrikeFault>
         ensures outcome { Answers (members C.eq C.byte_of C.cell_of) strike_fault (Strike strike.plane strike.row strike.column strike.byte) result (board self.old) (board self.new) }
         ensures heals { GoesOn (members C.eq C.byte_of C.cell_of) (Strike strike.plane strike.row strike.column strike.byte) result (board self.old) (board self.new) }
@@ -72,7 +72,7 @@ impl<'a, C: Kind> Plate<'a, C> {
         self.try_beats(host, times)
     }
 
-    // For each plane the byte of the cell that more than half of its copies hold.
+    // The byte of the majority of each plane.
     pub fn read(&self, out: &mut [u8]) -> Result<(), ReadFault>
         ensures outcome { Answers (members C.eq C.byte_of C.cell_of) read_fault (Read out.old out.new) result (board self.now) (board self.now) }
         ensures heals { GoesOn (members C.eq C.byte_of C.cell_of) (Read out.old out.new) result (board self.now) (board self.now) }
