@@ -2,7 +2,7 @@
 ghost use Rattle.std.specs.Prelude.{◌≡◌, Decides};
 ghost use Rattle.toom.specs.Bit.{equal_bits};
 ghost use Rattle.toom.specs.Inclusion.{VoteKeepsInclusion};
-ghost use Rattle.toom.specs.MachineCell.{SameParts, equal_machine_cells};
+ghost use Rattle.toom.specs.MachineCell.{PartsMakeCells, SameParts, equal_machine_cells};
 ghost use Rattle.toom.specs.Lines.{LinesStay, BoundIsSharp};
 ghost use Rattle.toom.specs.Shadow.{MarksPin, equal_shadows};
 ghost use Rattle.toom.specs.Triangle.{TriangleShrinks, TriangleVanishes};
@@ -19,9 +19,10 @@ pub fn vote_heals<C: Kind>()
     ensures planes { HealsOutside C.eq }
 {}
 
-// A machine cell is its head and its symbol, and nothing else.
+// A machine cell is its head and its symbol, and nothing else; every two numbers of at most 15 are those of a cell.
 pub fn parts_pin()
-    ensures { (x y : MachineCell) → SameParts x y → x ≡ y }
+    ensures pin { (x y : MachineCell) → SameParts x y → x ≡ y }
+    ensures make { PartsMakeCells }
 {}
 
 // A shadow is its side and its marks, so the vote depends on nothing but the bits.
