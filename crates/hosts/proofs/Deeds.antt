@@ -1,13 +1,13 @@
 -- The deeds of a table, and that a step by deeds is the machine's rule.
 use mathlib.Core.HLevel.{is_prop→PathP}
-use Rattle.std.proofs.Common.{◌≡◌, ℕ, ◌+◌, ◌*◌, ◌/◌, ◌%◌, ◌<◌, ◌≤◌, ◌&&◌, ◌==◌, Bool, true, false, cond, not, List, length, get_or, set, replicate, Some, None, Option, refl, sym, ap, ◌∙◌, inl, inr, arith}
+use Rattle.std.proofs.Common.{◌≡◌, ℕ, ◌+◌, ◌*◌, ◌/◌, ◌<◌, ◌≤◌, ◌&&◌, ◌==◌, Bool, true, false, cond, not, List, length, get_or, set, replicate, Some, None, Option, refl, sym, ap, ◌∙◌, inl, inr, arith}
 use Rattle.std.proofs.Props.{props}
 use Rattle.std.proofs.lemmas.List.{get_or_past, get_or-set_other, length-set, get_or_default}
 use Rattle.std.proofs.lemmas.Grind.{get_or-set_at}
 use Rattle.std.proofs.lemmas.Bool.{cases_lt, cases_eq, cond_both, ne_eqb}
 use Rattle.std.specs.Option.{option_or, unwrap_or}
 use Rattle.toom.specs.declared.machine_cell.MachineCell.{MachineCell}
-use Rattle.toom.specs.MachineCell.{head_of_cell, symbol_of_cell}
+use Rattle.toom.specs.MachineCell.{byte_of_machine_cell, head_of_cell, symbol_of_cell}
 use Rattle.toom.specs.MachineCells.{cells_equal}
 use Rattle.hosts.specs.declared.entry.Entry.{Entry}
 use Rattle.hosts.specs.declared.entry.Motion.{Motion}
@@ -88,7 +88,7 @@ module _ (c : MachineCell) (el er : Option Entry) (some_left : Enters el) (e : E
   bytes : (t b : Bool) → (head_of_cell c == 0) ≡ t → Enters (cond b (Some e) None)
       → 16 * first_of (staying (head_of c) (cond b (Some e) None)).value (sent Right el).value (sent Left er).value
       + (writing (symbol_of c) (cond b (Some e) None)).value
-      ≡ (rule t b).byte
+      ≡ byte_of_machine_cell (rule t b)
   bytes true true is some =
       ap (λ h. 16 * h + e.symbol) (or_else Stay (Some e) (option_or (moving Right el) (moving Left er)) _ some arrives)
   bytes false true is some =
@@ -98,26 +98,27 @@ module _ (c : MachineCell) (el er : Option Entry) (some_left : Enters el) (e : E
 
 module _ (m : Machine) (x : MachineCell) where
   -- A cell's slot is its byte.
-  slot_of : entry_at m (head_of_cell x) (symbol_of_cell x) ≡ unwrap_or (slot m.table x.byte) blank
-  slot_of = let same : 16 * head_of_cell x + symbol_of_cell x ≡ x.byte = omega arith in ap (λ k. unwrap_or (slot m.table k) blank) same
+  slot_of : entry_at m (head_of_cell x) (symbol_of_cell x) ≡ unwrap_or (slot m.table (byte_of_machine_cell x)) blank
+  slot_of = let same : 16 * head_of_cell x + symbol_of_cell x ≡ byte_of_machine_cell x = omega arith in ap (λ k. unwrap_or (slot m.table k) blank) same
 
-  slot_entry : slot m.table x.byte ≡ entry_of m x
+  slot_entry : slot m.table (byte_of_machine_cell x) ≡ entry_of m x
   slot_entry =
-      cond_both (live m x) (Some (entry_at m (head_of_cell x) (symbol_of_cell x))) None (λ o. slot m.table x.byte ≡ o)
-      (λ h. some_is _ blank _ (m.used x.byte h).0 (sym slot_of)) (λ h. none_is _ (m.unused x.byte h))
+      cond_both (live m x) (Some (entry_at m (head_of_cell x) (symbol_of_cell x))) None (λ o. slot m.table (byte_of_machine_cell x) ≡ o)
+      (λ h. some_is _ blank _ (m.used (byte_of_machine_cell x) h).0 (sym slot_of)) (λ h. none_is _ (m.unused (byte_of_machine_cell x) h))
 
-  pub deed_is : deed_at m.table x.byte ≡ deed_of (head_of x) (symbol_of x) (entry_of m x)
+  pub deed_is : deed_at m.table (byte_of_machine_cell x) ≡ deed_of (head_of x) (symbol_of x) (entry_of m x)
   deed_is =
-      let heads : low_digit (x.byte / 16) ≡ head_of x = digits_equal _ _ (omega arith) in
-      λ i. deed_of (heads i) (symbol_of x) (slot_entry i)
+      let heads : low_digit (byte_of_machine_cell x / 16) ≡ head_of x = digits_equal _ _ (omega arith) in
+      let symbols : low_digit (byte_of_machine_cell x) ≡ symbol_of x = digits_equal _ _ refl in
+      λ i. deed_of (heads i) (symbols i) (slot_entry i)
 
-  pub looked_up : (d : Deed) → x.byte < length m.deeds → get_or m.deeds x.byte d ≡ deed_of (head_of x) (symbol_of x) (entry_of m x)
-  looked_up d within = get_or_default m.deeds x.byte d (deed_at m.table x.byte) within ∙ m.done x.byte ∙ deed_is
+  pub looked_up : (d : Deed) → byte_of_machine_cell x < length m.deeds → get_or m.deeds (byte_of_machine_cell x) d ≡ deed_of (head_of x) (symbol_of x) (entry_of m x)
+  looked_up d within = get_or_default m.deeds (byte_of_machine_cell x) d (deed_at m.table (byte_of_machine_cell x)) within ∙ m.done (byte_of_machine_cell x) ∙ deed_is
 
   enters : Enters (entry_of m x)
   enters =
       cond_both (live m x) (Some (entry_at m (head_of_cell x) (symbol_of_cell x))) None Enters
-      (λ h. let enters = (m.used x.byte h).1.0 in rw slot_of enters) (λ _. omega arith)
+      (λ h. let enters = (m.used (byte_of_machine_cell x) h).1.0 in rw slot_of enters) (λ _. omega arith)
 
 module _ (m : Machine) (l c r : MachineCell) where
   abbrev by_deeds : MachineCell → Deed
@@ -125,7 +126,7 @@ module _ (m : Machine) (l c r : MachineCell) where
 
   -- A step by deeds is the machine's rule.
   pub rule_by_deeds : (own left right : Deed) (x : MachineCell) → own ≡ by_deeds c → left ≡ by_deeds l → right ≡ by_deeds r
-      → x.byte ≡ 16 * first_of own.stays left.goes_right right.goes_left + own.symbol → x ≡ machine_rule m l c r
+      → byte_of_machine_cell x ≡ 16 * first_of own.stays left.goes_right right.goes_left + own.symbol → x ≡ machine_rule m l c r
   rule_by_deeds own left right x p q s is =
       let e = entry_at m (head_of_cell c) (symbol_of_cell c) in
       let t = head_of_cell c == 0 in

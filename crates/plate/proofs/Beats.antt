@@ -1,11 +1,8 @@
 -- A beaten plate follows the plain machine: the vote heals every plane outside the voted shadow, and there and in the line the host steps the run.
-use Rattle.std.proofs.Common.{◌≡◌, ℕ, ◌<◌, ◌≤◌, Bool, true, false, length, Some, sym, ap, ◌∙◌, subst}
-use mathlib.Core.Bool.{beq}
+use Rattle.std.proofs.Common.{◌≡◌, ℕ, ◌<◌, ◌≤◌, Bool, false, length, Some, sym, ap, ◌∙◌, subst}
+use Rattle.std.specs.Bool.{beq}
 use Rattle.toom.specs.Shadow.{IsShadow, marks}
-use Rattle.toom.specs.Torus.{Everywhere, next}
-use Rattle.toom.specs.Vote.{thinned, vote_of}
-use Rattle.toom.proofs.Modular.{next_below}
-use Rattle.toom.proofs.Votes.{heals_outside}
+use Rattle.toom.specs.Vote.{thinned, HealsOutside, SameVotes}
 use Rattle.hosts.specs.Ring.{left_of, right_of, stepped}
 use Rattle.plate.specs.BeatCall.{Beats, CellsBeaten, copies, line, voted_copies}
 use Rattle.plate.specs.Board.{Board, side_of}
@@ -15,7 +12,7 @@ use Rattle.plate.proofs.Follows.{Alike, Follows, shape_held, stood_alike}
 use Rattle.hosts.proofs.Rings.{left_below, right_below}
 use Rattle.plate.proofs.Standing.{some_same, stands_with}
 
-module _ {C : Type 0} (equal : C → C → Bool) (same : (x : C) → equal x x ≡ true) (sound : (x y : C) → equal x y ≡ true → x ≡ y)
+module _ {C : Type 0} (equal : C → C → Bool) (heals_outside : HealsOutside equal) (same_votes : SameVotes beq)
     (host : C → C → C → C) (p : Plain C) (b b' : Board C) (follows : Follows p b) (beats : Beats equal host b b') where
   alike : Alike beats.stood p
   alike = stood_alike p b follows.agrees beats.stood beats.standing_before
@@ -29,14 +26,6 @@ module _ {C : Type 0} (equal : C → C → Bool) (same : (x : C) → equal x x �
   shadow_voted =
       subst (λ s. IsShadow beats.kept.shadow s (thinned s (marks beats.stood.shadow))) alike.sides beats.shadow
 
-  -- The two shadows are voted alike.
-  thinned_alike : Everywhere p.side (λ r c. thinned p.side (marks beats.stood.shadow) r c ≡ thinned p.side p.shadow r c)
-  thinned_alike r c r< c< =
-      let north = alike.shadows (next p.side r) c (next_below p.side r r<) c< in
-      let east = alike.shadows r (next p.side c) r< (next_below p.side c c<) in
-      let own = alike.shadows r c r< c< in
-      λ j. vote_of beq (north j) (east j) (own j)
-
   -- Outside the voted shadow a voted copy is the faultless run's cell.
   voted_heals : (i r c : ℕ) (d : C) → i < p.n → r < p.side → c < p.side → thinned p.side p.shadow r c ≡ false
       → Some (voted_copies b'.cells p.n p.side d i r c) ≡ p.run i
@@ -46,7 +35,7 @@ module _ {C : Type 0} (equal : C → C → Bool) (same : (x : C) → equal x x �
       some_same (copies b.cells p.side d i r c) x.0 (follows.agrees.copies i r c d i< r< c< clear ∙ x.1) in
       ap Some
       (cells_beaten.votes i r c d i< r< c<
-      ∙ heals_outside equal same sound p.side p.shadow (copies b.cells p.side d i) x.0 before r c r< c< clear)
+      ∙ heals_outside p.side p.shadow (copies b.cells p.side d i) x.0 before r c r< c< clear)
       ∙ sym x.1
 
   stepped_heals : (i r c : ℕ) (d : C) → i < p.n → r < p.side → c < p.side → thinned p.side p.shadow r c ≡ false
@@ -86,7 +75,7 @@ module _ {C : Type 0} (equal : C → C → Bool) (same : (x : C) → equal x x �
           stands = stands_with b' beats.kept p.n p.side beats.stands planes shadow_voted.sides room;
           planes = planes;
           sides = shadow_voted.sides;
-          shadows = λ r c r< c<. shadow_voted.places r c r< c< ∙ thinned_alike r c r< c<;
+          shadows = λ r c r< c<. shadow_voted.places r c r< c< ∙ same_votes p.side _ p.shadow alike.shadows r c r< c<;
           copies = stepped_heals;
           lines = stepped_lines;
         };

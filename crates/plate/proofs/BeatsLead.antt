@@ -2,6 +2,7 @@
 use Rattle.std.proofs.Common.{◌≡◌, ℕ, zero, suc, ◌+◌, ◌≤◌, Bool, List, length, Some, None, Option, sym, refl, ap, ◌∙◌, subst, arith}
 use Rattle.std.proofs.lemmas.Bool.{cond-true, cond_both, lt-ltb}
 use Rattle.toom.specs.declared.shadow.Shadow.{Shadow}
+use Rattle.toom.specs.Shadow.{side_of_shadow}
 use Rattle.toom.specs.ShadowCalls.{Voted}
 use Rattle.plate.specs.declared.laid.Laid.{Laid}
 use Rattle.plate.specs.BeatCall.{CellsBeaten, beat_questions_of}
@@ -29,8 +30,8 @@ beaten_long : {C : Type 0} (equal : C → C → Bool) (host : C → C → C → 
 beaten_long equal host n side zero before after same = ap length same
 beaten_long equal host n side (suc m) before after (between, rest, last) = last.long ∙ beaten_long equal host n side m before between rest
 
-voted_side : (m : ℕ) (before after : Shadow) → VotedBy m before after → after.side ≡ before.side
-voted_side zero before after same = ap (λ s. s.side) same
+voted_side : (m : ℕ) (before after : Shadow) → VotedBy m before after → side_of_shadow after ≡ side_of_shadow before
+voted_side zero before after same = ap side_of_shadow same
 voted_side (suc m) before after (between, rest, last) = last.sides ∙ voted_side m before between rest
 
 -- A shadow that a vote leaves stays however often it is voted.
@@ -45,7 +46,7 @@ module _ {C : Type 0} (k : Members C) (host : C → C → C → C) (b : Board C)
   abbrev later : (m : ℕ) → l.age + m ≤ 1048575 → Shadow → List C → Board C
   later m young shadow cells = record { laid = Some (aged l m young shadow); cells = cells }
 
-  later_stands : (m : ℕ) (young : l.age + m ≤ 1048575) (shadow : Shadow) (cells : List C) → shadow.side ≡ side_of l → length cells ≡ length b.cells
+  later_stands : (m : ℕ) (young : l.age + m ≤ 1048575) (shadow : Shadow) (cells : List C) → side_of_shadow shadow ≡ side_of l → length cells ≡ length b.cells
       → standing (later m young shadow cells) ≡ Some (aged l m young shadow)
   later_stands m young shadow cells sides long =
       stands_with (later m young shadow cells) (aged l m young shadow) l.planes (side_of l) refl refl sides (rw long (standing_holds b l stood))

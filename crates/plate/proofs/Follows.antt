@@ -2,7 +2,7 @@
 use Rattle.std.proofs.Common.{◌≡◌, ℕ, ◌<◌, ◌≤◌, true, false, List, length, get_or, is_some, Some, None, Option, sym, refl, ◌∙◌, subst, ap₂}
 use Rattle.std.proofs.lemmas.Bool.{both_ways}
 use Rattle.toom.specs.Shadow.{marks, no_marks}
-use Rattle.toom.specs.Torus.{Everywhere}
+use Rattle.toom.specs.Torus.{SameOnTorus}
 use Rattle.plate.specs.declared.laid.Laid.{Laid}
 use Rattle.plate.specs.Board.{Board, side_of, standing}
 use Rattle.plate.specs.Healing.{Agrees}
@@ -20,7 +20,7 @@ pub record Follows {C : Type 0} (p : Plain C) (b : Board C) : Type 0 where
 pub record Alike {C : Type 0} (l : Laid) (p : Plain C) : Type 0 where
   pub planes : l.planes ≡ p.n
   pub sides : side_of l ≡ p.side
-  pub shadows : Everywhere p.side (λ r c. marks l.shadow r c ≡ p.shadow r c)
+  pub shadows : SameOnTorus p.side (marks l.shadow) p.shadow
 
 module _ {C : Type 0} (p : Plain C) (b : Board C) (agrees : Agrees p b) where
   pub stood_alike : (l : Laid) → standing b ≡ Some l → Alike l p

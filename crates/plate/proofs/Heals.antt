@@ -1,12 +1,13 @@
 -- The healing laws hold of every plate that calls can reach.
-use Rattle.std.proofs.Common.{◌≡◌, ℕ, ◌-◌, ◌<◌, ◌≤◌, Bool, true, false, ◌∷◌, ◌++◌, Some, None, Option, sym, refl, ap, ◌∙◌, subst, inl, inr, arith}
+use Rattle.std.proofs.Common.{◌≡◌, ℕ, ◌-◌, ◌<◌, ◌≤◌, true, false, ◌++◌, Some, None, Option, sym, refl, ap, ◌∙◌, subst, inl, inr, arith}
 use Rattle.std.proofs.lemmas.Bool.{cases_Bool}
-use Rattle.toom.specs.Triangle.{LiesInTriangle}
-use Rattle.toom.proofs.Triangles.{triangle_shrinks}
+use Rattle.std.specs.Bool.{beq}
+use Rattle.toom.specs.Triangle.{LiesInTriangle, TriangleShrinks}
+use Rattle.toom.specs.Vote.{HealsOutside, SameVotes}
 use Rattle.plate.specs.BeatCall.{beat_questions_of}
 use Rattle.plate.specs.Board.{Board, standing}
 use Rattle.plate.specs.Healing.{Agrees, Matches, Quiet, beats_in, WoundsWithin, Healing, AlwaysHeals}
-use Rattle.plate.specs.History.{Call, Lay, Strike, Beat, Read, Map, Show, History, refusal_on, Effect, Outcome, Reached, new, more}
+use Rattle.plate.specs.History.{Call, Lay, Strike, Beat, Read, Map, Show, History, refusal_on, Effect, Reached, new, more}
 use Rattle.plate.specs.Members.{Members}
 use Rattle.plate.specs.Plain.{Plain, after_call, plain}
 use Rattle.plate.specs.StrikeCall.{strike_questions_of}
@@ -38,7 +39,8 @@ wounds_in_shadow q b agrees row column m lies = record {
       ];
 }
 
-module _ {C : Type 0} (k : Members C) (reflexive : (x : C) → k.equal x x ≡ true) (exact : (x y : C) → k.equal x y ≡ true → x ≡ y) where
+module _ {C : Type 0} (k : Members C) (reflexive : (x : C) → k.equal x x ≡ true) (exact : (x y : C) → k.equal x y ≡ true → x ≡ y)
+    (heals_outside : HealsOutside k.equal) (same_votes : SameVotes beq) (triangle_shrinks : TriangleShrinks) where
   -- An accepted call. A bare plate refuses strikes and beats.
   call_followed : (call : Call C) (o : Option (Plain C)) (b b' : Board C) → Followed o b → refusal_on k b call ≡ None → Effect k call b b'
       → Followed (after_call k call o) b'
@@ -51,7 +53,7 @@ module _ {C : Type 0} (k : Members C) (reflexive : (x : C) → k.equal x x ≡ t
   call_followed (Beat host) None b b' bare good effect =
       let refused = ap beat_questions_of bare in
       let z : ◌≡◌ {A = ℕ} 0 1 = cc in absurd (omega arith)
-  call_followed (Beat host) (Some p) b b' follows good effect = follows_beaten k.equal reflexive exact host p b b' follows effect
+  call_followed (Beat host) (Some p) b b' follows good effect = follows_beaten k.equal heals_outside same_votes host p b b' follows effect
   call_followed (Read before after) o b b' followed good effect = subst (Followed o) (sym effect.1) followed
   call_followed (Map before after) o b b' followed good effect = subst (Followed o) (sym effect.1) followed
   call_followed (Show before after) o b b' followed good effect = subst (Followed o) (sym effect.1) followed
@@ -87,8 +89,3 @@ module _ {C : Type 0} (k : Members C) (reflexive : (x : C) → k.equal x x ≡ t
 
   pub always_heals : AlwaysHeals k
   always_heals h b reached = heals_followed h b (reached_followed reached)
-
-  -- One call more.
-  pub heals_more : {h : History C} {b b' : Board C} (call : Call C) (accepted : Bool) → Reached k h b → Outcome k call accepted b b'
-      → Healing k ((call, accepted) ∷ h) b'
-  heals_more {h} {b} {b'} call accepted reached outcome = always_heals ((call, accepted) ∷ h) b' (more call accepted reached outcome)

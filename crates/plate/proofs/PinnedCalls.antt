@@ -7,16 +7,15 @@ use Rattle.plate.specs.Faults.{beat_fault}
 use Rattle.plate.specs.History.{Call}
 use Rattle.plate.specs.Leads.{AnswersCalls, Leads, beats_alone}
 use Rattle.plate.specs.Members.{Members}
-use Rattle.plate.specs.Pins.{BeatsPin}
+use Rattle.plate.specs.Pins.{BeatsPin, OutcomesPin}
 use Rattle.plate.proofs.PinnedFaults.{faults_pin}
-use Rattle.plate.proofs.Pins.{outcomes_pin}
 use Rattle.plate.proofs.Standing.{not_both, some_same}
 
-module _ {C : Type 0} (k : Members C) where
+module _ {C : Type 0} (k : Members C) (ends_pin : OutcomesPin k) where
   pub leads_pin : (calls : List (Call C)) (b b₁ b₂ : Board C) → Leads k calls b b₁ → Leads k calls b b₂ → b₁ ≡ b₂
   leads_pin [] b b₁ b₂ x y = x ∙ sym y
   leads_pin (call ∷ calls) b b₁ b₂ x y =
-      let same = (outcomes_pin k call call refl true true b x.0 y.0 x.1 y.1).1 in
+      let same = (ends_pin call call refl true true b x.0 y.0 x.1 y.1).1 in
       leads_pin calls y.0 b₁ b₂ (subst (λ a. Leads k calls a b₁) same x.2) y.2
 
   -- `own` says that each fault has a refusal of its own.

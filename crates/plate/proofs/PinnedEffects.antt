@@ -1,10 +1,9 @@
 -- Each effect settles what it leaves: of the plate, and of its output.
 use Rattle.std.proofs.Common.{◌≡◌, ℕ, ◌+◌, ◌*◌, ◌≤◌, Bool, List, [], ◌∷◌, ◌++◌, map, length, drop, set, Some, Option, sym, ap, ◌∙◌, subst, ap₂, arith}
 use Rattle.std.specs.List.{range_with_len}
-use Rattle.toom.specs.Shadow.{IsShadow, marks, no_marks, with_mark, words_of}
+use Rattle.toom.specs.Shadow.{IsShadow, MarksPin, SidesFit, marks, no_marks, with_mark, words_of}
 use Rattle.toom.specs.ShadowCalls.{Voted}
 use Rattle.toom.specs.Vote.{thinned}
-use Rattle.toom.proofs.Shadows.{marks_pin}
 use Rattle.plate.specs.declared.laid.Laid.{Laid}
 use Rattle.plate.specs.BeatCall.{Beats, CellsBeaten}
 use Rattle.plate.specs.Board.{Board, side_of, standing}
@@ -18,10 +17,6 @@ use Rattle.plate.proofs.PinnedCells.{laid_cells_pin, beaten_cells_pin}
 use Rattle.plate.proofs.PinnedLaid.{laids_equal, boards_equal, one_stands}
 use Rattle.plate.proofs.Standing.{some_same, standing_holds}
 
--- The side of what a plate keeps is at least 1.
-sided : (l : Laid) → 1 ≤ side_of l
-sided l = omega (arith, l.shadow.sized.0)
-
 -- A plate that stands has a cell.
 first_cell : {C : Type 0} (cells : List C) → 1 ≤ length cells → C
 first_cell [] h = absurd (omega arith)
@@ -30,7 +25,11 @@ first_cell (x ∷ xs) h = x
 pub some_cell : {C : Type 0} (b : Board C) (l : Laid) → standing b ≡ Some l → C
 some_cell b l stands = first_cell b.cells (omega (arith, standing_holds b l stands, l.some))
 
-module _ {C : Type 0} (b b₁ b₂ : Board C) where
+module _ (marks_pin : MarksPin) (sides : SidesFit) {C : Type 0} (b b₁ b₂ : Board C) where
+  -- The side of what a plate keeps is at least 1.
+  sided : (l : Laid) → 1 ≤ side_of l
+  sided l = omega (arith, (sides l.shadow).0)
+
   pub lay_pins : (named : ℕ → Option C) (n side : ℕ) (tape : List ℕ) → Lays named n side tape b b₁ → Lays named n side tape b b₂ → b₁ ≡ b₂
   lay_pins named n side tape x y =
       boards_equal b₁ b₂ x.kept y.kept x.stands y.stands

@@ -1,5 +1,6 @@
 -- Each outcome pins its end: the questions settle whether the call is accepted, a refusal leaves everything, and an effect settles the rest.
 use Rattle.std.proofs.Common.{◌≡◌, ℕ, Bool, true, false, List, is_some, None, Option, sym, refl, ap, ◌∙◌, subst, arith}
+use Rattle.toom.specs.Shadow.{MarksPin, SidesFit}
 use Rattle.hosts.specs.Refusal.{Refusal}
 use Rattle.plate.specs.Board.{Board}
 use Rattle.plate.specs.History.{Call, Lay, Strike, Beat, Read, Map, Show, refusal_on, Effect, Untouched, Outcome}
@@ -32,7 +33,7 @@ writing_input (Read before after) out = refl
 writing_input (Map before after) out = refl
 writing_input (Show before after) out = refl
 
-module _ {C : Type 0} (k : Members C) where
+module _ (marks_pin : MarksPin) (sides : SidesFit) {C : Type 0} (k : Members C) where
   -- The questions do not see what is written.
   same_questions : (call : Call C) (out : List ℕ) (b : Board C) → refusal_on k b (writing call out) ≡ refusal_on k b call
   same_questions (Lay n side tape) out b = refl
@@ -44,9 +45,9 @@ module _ {C : Type 0} (k : Members C) where
 
   effects_pin : (call : Call C) (out : List ℕ) (b b₁ b₂ : Board C) → Effect k call b b₁ → Effect k (writing call out) b b₂
       → (b₁ ≡ b₂) × (output call ≡ output (writing call out))
-  effects_pin (Lay n side tape) out b b₁ b₂ x y = (lay_pins b b₁ b₂ k.named n side tape x y, refl)
-  effects_pin (Strike plane row column byte) out b b₁ b₂ x y = (strike_pins b b₁ b₂ k.named plane row column byte x y, refl)
-  effects_pin (Beat host) out b b₁ b₂ x y = (beat_pins b b₁ b₂ k.equal host x y, refl)
+  effects_pin (Lay n side tape) out b b₁ b₂ x y = (lay_pins marks_pin sides b b₁ b₂ k.named n side tape x y, refl)
+  effects_pin (Strike plane row column byte) out b b₁ b₂ x y = (strike_pins marks_pin sides b b₁ b₂ k.named plane row column byte x y, refl)
+  effects_pin (Beat host) out b b₁ b₂ x y = (beat_pins marks_pin sides b b₁ b₂ k.equal host x y, refl)
   effects_pin (Read before after) out b b₁ b₂ x y = (x.1 ∙ sym y.1, read_pins b before after out k.equal k.byte x.0 y.0)
   effects_pin (Map before after) out b b₁ b₂ x y = (x.1 ∙ sym y.1, map_pins b before after out k.equal x.0 y.0)
   effects_pin (Show before after) out b b₁ b₂ x y = (x.1 ∙ sym y.1, show_pins b before after out x.0 y.0)

@@ -1,7 +1,7 @@
 -- The places beside wounds: with the wounds they are all that votes of wounds read.
 use Rattle.std.specs.Prelude.{◌≡◌, ℕ, ◌+◌, ◌*◌, ◌<◌, Bool, true, false, ◌⊎◌, List}
 use Rattle.toom.specs.declared.shadow.Shadow.{Shadow}
-use Rattle.toom.specs.Shadow.{marks}
+use Rattle.toom.specs.Shadow.{marks, side_of_shadow}
 use Rattle.toom.specs.Torus.{Everywhere, Plane, next}
 use Rattle.plate.specs.BeatCall.{line}
 use Rattle.plate.specs.Sweep.{Wanted}
@@ -22,9 +22,9 @@ pub record Beside (side : ℕ) (wounds beside : Plane Bool) : Type 0 where
 
 -- Places that are no wounds were added to a set.
 pub record SoundAdded (wounds : Plane Bool) (before after : Shadow) : Type 0 where
-  pub side : after.side ≡ before.side
-  pub stay : Everywhere before.side (λ r c. marks before r c ≡ true → marks after r c ≡ true)
-  pub sound : Everywhere before.side (λ r c. marks after r c ≡ true → (marks before r c ≡ true) ⊎ (wounds r c ≡ false))
+  pub side : side_of_shadow after ≡ side_of_shadow before
+  pub stay : Everywhere (side_of_shadow before) (λ r c. marks before r c ≡ true → marks after r c ≡ true)
+  pub sound : Everywhere (side_of_shadow before) (λ r c. marks after r c ≡ true → (marks before r c ≡ true) ⊎ (wounds r c ≡ false))
 
 -- The n cells of the line over and over.
 abbrev pub RepeatsLine : {C : Type 0} → (n side : ℕ) → List C → Wanted C

@@ -1,5 +1,6 @@
 -- A plate as its calls see it: what it keeps beside its cells if it is laid, and its memory.
 use Rattle.std.specs.Prelude.{ℕ, ◌*◌, cond, List, length, take, drop, Some, None, Option, nat_le}
+use Rattle.toom.specs.Shadow.{side_of_shadow}
 use Rattle.plate.specs.declared.laid.Laid.{Laid}
 use Rattle.plate.specs.Layout.{size_of}
 
@@ -9,7 +10,7 @@ pub record Board (C : Type 0) : Type 0 where
 
 -- The side of a laid plate is that of its shadow.
 abbrev pub side_of : Laid → ℕ
-side_of l = l.shadow.side
+side_of l = side_of_shadow l.shadow
 
 abbrev pub held : {C : Type 0} → Option Laid → List C → Option Laid
 held None cells = None

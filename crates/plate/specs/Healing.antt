@@ -1,7 +1,7 @@
 -- The healing laws: what the vote and the shadow promise of every plate that calls can reach.
 use Rattle.std.specs.Prelude.{◌≡◌, ℕ, ◌+◌, ◌-◌, ◌<◌, ◌≤◌, Bool, true, false, List, [], ◌∷◌, ◌++◌, length, Some, None, Option, ◌≢◌}
 use Rattle.toom.specs.Shadow.{marks}
-use Rattle.toom.specs.Torus.{Everywhere}
+use Rattle.toom.specs.Torus.{SameOnTorus}
 use Rattle.toom.specs.Triangle.{InTriangle, LiesInTriangle}
 use Rattle.plate.specs.declared.laid.Laid.{Laid}
 use Rattle.plate.specs.BeatCall.{copies, line}
@@ -17,7 +17,7 @@ pub record Agrees {C : Type 0} (p : Plain C) (b : Board C) : Type 0 where
   pub stands : standing b ≡ Some kept
   pub planes : kept.planes ≡ p.n
   pub sides : side_of kept ≡ p.side
-  pub shadows : Everywhere p.side (λ r c. marks kept.shadow r c ≡ p.shadow r c)
+  pub shadows : SameOnTorus p.side (marks kept.shadow) p.shadow
   pub copies : (i r c : ℕ) (d : C) → i < p.n → r < p.side → c < p.side → p.shadow r c ≡ false
       → Some (copies b.cells p.side d i r c) ≡ p.run i
   pub lines : (i : ℕ) (d : C) → i < p.n → Some (line b.cells p.n p.side d i) ≡ p.run i

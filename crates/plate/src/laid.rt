@@ -1,5 +1,6 @@
 // What a laid plate keeps beside its cells: the number of its planes, its age and its shadow, whose side is that of the planes.
 ghost use Rattle.std.specs.Prelude.{◌≡◌, ◌≤◌};
+ghost use Rattle.toom.specs.Shadow.{side_of_shadow};
 
 use crate::shape::Shape;
 use toom::shadow::Shadow;
@@ -21,7 +22,7 @@ pub struct Laid {
 impl Laid {
     pub(crate) fn shape(&self) -> Shape
         ensures planes { result.planes ≡ self.now.planes }
-        ensures side { result.side ≡ self.now.shadow.side }
+        ensures side { result.side ≡ side_of_shadow self.now.shadow }
     {
         Shape {
             planes: self.planes,

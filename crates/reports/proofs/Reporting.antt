@@ -1,7 +1,7 @@
 -- The report, written into an empty text over the whole output.
 use Rattle.std.proofs.Common.{◌≡◌, ℕ, ◌+◌, ◌≤◌, List, ◌++◌, length, take, drop, Some, ap, ◌∙◌, ap₂, arith}
 use Rattle.plate.specs.declared.laid.Laid.{Laid}
-use Rattle.plate.specs.Board.{Board, standing}
+use Rattle.plate.specs.Board.{Board, side_of, standing}
 use Rattle.plate.specs.Members.{Members}
 use Rattle.reports.specs.declared.text.Text.{Text}
 use Rattle.reports.specs.Report.{report_of}
@@ -12,10 +12,10 @@ use Rattle.reports.proofs.Rooms.{report_fits}
 
 module _ {C : Type 0} (k : Members C) (b : Board C) (l : Laid) (stands : standing b ≡ Some l) (whole : List ℕ)
     (told : (d : C) → whole ≡ report_of k l b.cells d) (out : List ℕ) (text : Text) (empty : text.len ≡ 0) (over : text.bytes.now ≡ out) where
-  pub whole_fits : 12396 ≤ length out → Fits text whole
-  whole_fits enough =
+  pub whole_fits : side_of l ≤ 64 → 12396 ≤ length out → Fits text whole
+  whole_fits narrow enough =
       let d = some_cell b l stands in
-      omega (arith, ap length (told d), report_fits k l b.cells d, ap length over)
+      omega (arith, ap length (told d), report_fits k l narrow b.cells d, ap length over)
 
   pub reports : {end : Text} {after : List ℕ} {answer : ℕ} → Appends text whole end → answer ≡ end.len → after ≡ end.bytes.now
       → Reports k b answer out after

@@ -8,13 +8,13 @@ use Rattle.std.specs.List.{range_with_len, flat_map}
 use Rattle.toom.specs.Shadow.{marks}
 use Rattle.toom.specs.Torus.{Plane, count_marks, total}
 use Rattle.hosts.specs.Refusal.{Refusal, ask_each}
+use Rattle.plate.specs.declared.laid.Laid.{Laid}
 use Rattle.plate.specs.Board.{side_of}
 use Rattle.plate.specs.MapCall.{hurt_at}
 use Rattle.plate.specs.Members.{Members}
 use Rattle.plate.specs.ReadCall.{plane_question, reading}
 use Rattle.reports.specs.Hex.{pair}
-use Rattle.reports.specs.Report.{last_line, number_line, page, row_line, rows, tape_line}
-use Rattle.reports.specs.Room.{ReportFits}
+use Rattle.reports.specs.Report.{last_line, number_line, page, report_of, row_line, rows, tape_line}
 use Rattle.reports.specs.Text.{line_end}
 use Rattle.reports.proofs.Splits.{IfAny, split_any}
 use Rattle.reports.proofs.Totals.{map_low, marks_low}
@@ -69,11 +69,11 @@ last_fits (Some r) tape low short =
     let within = low r refl in
     omega (arith, number_long (codes "no majority ") 4 r.place (omega arith) (omega arith) (omega arith))
 
-pub report_fits : {C : Type 0} (k : Members C) → ReportFits k
-report_fits k l cells d =
+pub report_fits : {C : Type 0} (k : Members C) (l : Laid) → side_of l ≤ 64 → (cells : List C) (d : C) → length (report_of k l cells d) ≤ 12396
+report_fits k l narrow cells d =
     let side = side_of l in
-    page_fits l.age side (hurt_at k.equal l.planes side cells d) (marks l.shadow) (last_line _ _) l.young l.shadow.sized.1
-    (map_low k.equal l.planes side cells d l.few l.shadow.sized.1)
+    page_fits l.age side (hurt_at k.equal l.planes side cells d) (marks l.shadow) (last_line _ _) l.young narrow
+    (map_low k.equal l.planes side cells d l.few narrow)
     (last_fits (ask_each (plane_question k.equal cells side) l.planes) (reading k.equal k.byte l.planes side cells)
     (split_any (λ r. r.place < 4096) k.equal cells side l.planes (λ i within. omega (arith, l.few)))
     (omega (arith, reading_long k.equal k.byte l.planes side cells, l.few)))

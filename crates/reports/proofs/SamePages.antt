@@ -2,9 +2,9 @@
 use Rattle.std.proofs.Common.{◌≡◌, ℕ, zero, suc, ◌+◌, ◌*◌, ◌<◌, Bool, List, ◌∷◌, ◌++◌, map, codes, refl, ap, ap₂, arith}
 use Rattle.std.specs.List.{range_with_len, flat_map}
 use Rattle.toom.specs.Torus.{Plane, count_marks}
-use Rattle.toom.proofs.RowWords.{total_same}
 use Rattle.plate.proofs.Layings.{place_below}
 use Rattle.reports.specs.Report.{ended, number_line, page, place_mark, row_line}
+use Rattle.reports.proofs.Totals.{total_same}
 
 pub map_same : (f g : ℕ → ℕ) (a n : ℕ) → ((k : ℕ) → k < a + n → f k ≡ g k) → map f (range_with_len a n) ≡ map g (range_with_len a n)
 map_same f g a zero same = refl

@@ -1,10 +1,10 @@
 -- A session leaves what its history leaves, so the healing laws hold after it; with a report it goes on.
-use Rattle.std.proofs.Common.{◌≡◌, ℕ, true, List, Ok, Err, Result, sym, refl, subst}
+use Rattle.std.proofs.Common.{ℕ, List, Ok, Err, Result, sym, refl, subst}
 use Rattle.plate.specs.Board.{Board}
+use Rattle.plate.specs.Healing.{AlwaysHeals}
 use Rattle.plate.specs.History as history
 use Rattle.plate.specs.History.{Reached}
 use Rattle.plate.specs.Members.{Members}
-use Rattle.plate.proofs.Heals.{always_heals}
 use Rattle.plate.proofs.Leading.{reached_with}
 use Rattle.runs.specs.RunCall.{calls_of_run}
 use Rattle.reports.specs.declared.fault.ReportFault.{ReportFault}
@@ -22,11 +22,9 @@ module _ {C : Type 0} (k : Members C) where
   history_reached (more {s} (Report before after answer) came outcome) =
       subst (Reached k (unrolled s)) (sym outcome.1) (history_reached came)
 
-  pub session_heals : ((x : C) → k.equal x x ≡ true) → ((x y : C) → k.equal x y ≡ true → x ≡ y) → SessionHeals k
-  session_heals reflexive exact s b came =
-      let reached = history_reached came in (reached, always_heals k reflexive exact (unrolled s) b reached)
+  pub session_heals : AlwaysHeals k → SessionHeals k
+  session_heals heals s b came = let reached = history_reached came in (reached, heals (unrolled s) b reached)
 
-  pub report_goes_on : ((x : C) → k.equal x x ≡ true) → ((x y : C) → k.equal x y ≡ true → x ≡ y) → (b : Board C) (before after : List ℕ)
-      (r : Result ℕ ReportFault) → ReportAnswers k r b before after → ReportGoesOn k r b before after
-  report_goes_on reflexive exact b before after r outcome s came =
-      (more (Report before after r) came (outcome, refl), (session_heals reflexive exact s b came).1)
+  pub report_goes_on : AlwaysHeals k → (b : Board C) (before after : List ℕ) (r : Result ℕ ReportFault) → ReportAnswers k r b before after → ReportGoesOn k r b before after
+  report_goes_on heals b before after r outcome s came =
+      (more (Report before after r) came (outcome, refl), (session_heals heals s b came).1)

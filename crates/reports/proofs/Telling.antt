@@ -7,21 +7,20 @@ use Rattle.std.specs.Option.{option_map}
 use Rattle.toom.specs.Shadow.{marks}
 use Rattle.toom.specs.Torus.{Everywhere, total}
 use Rattle.toom.specs.Vote.{wounded}
-use Rattle.toom.proofs.RowWords.{total_same}
 use Rattle.hosts.specs.Refusal.{Refusal, ask_each}
 use Rattle.plate.specs.declared.laid.Laid.{Laid}
 use Rattle.plate.specs.BeatCall.{copies, line}
 use Rattle.plate.specs.Board.{Board, side_of, standing}
-use Rattle.plate.specs.Healing.{Agrees, Healing, Matches}
+use Rattle.plate.specs.Healing.{Agrees, AlwaysHeals, Healing, Matches}
 use Rattle.plate.specs.History.{History}
 use Rattle.plate.specs.Members.{Members}
 use Rattle.plate.specs.Plain.{FaultlessTape, FewerThanHalf, Plain, plain}
 use Rattle.plate.specs.ReadCall.{Reads, plane_question, read_questions, read_questions_of, reading}
 use Rattle.plate.proofs.Follows.{stood_alike}
-use Rattle.plate.proofs.Heals.{always_heals}
 use Rattle.plate.proofs.Standing.{some_same}
 use Rattle.reports.specs.Report.{clear_mark, hurt_mark, last_line, last_of, place_mark, shadow_mark, tape_line}
 use Rattle.reports.specs.Tells.{ReportsTell, map_at}
+use Rattle.reports.proofs.Totals.{total_same}
 
 total_none : (f : ℕ → ℕ) (n : ℕ) → ((k : ℕ) → k < n → f k ≡ 0) → total f n ≡ 0
 total_none f zero none = refl
@@ -119,9 +118,9 @@ module _ {C : Type 0} (k : Members C) (h : History C) (b : Board C) (heals : Hea
       ∙ ap tape_line (ext_get_or 0 tape names (tape_long ∙ sym long)
       (λ i i<. let below : i < l.planes = omega (arith, tape_long) in some_same _ _ (sym (tape_byte i below) ∙ named i (omega (arith, planes)))))
 
-pub reports_tell : {C : Type 0} (k : Members C) → ((x : C) → k.equal x x ≡ true) → ((x y : C) → k.equal x y ≡ true → x ≡ y) → ReportsTell k
-reports_tell k reflexive exact h b p l d reached is stands =
-    let heals = always_heals k reflexive exact h b reached in
+pub reports_tell : {C : Type 0} (k : Members C) → ((x : C) → k.equal x x ≡ true) → AlwaysHeals k → ReportsTell k
+reports_tell k reflexive always_heals h b p l d reached is stands =
+    let heals = always_heals h b reached in
     let agrees : Agrees p b = subst (λ o. Matches o b) is heals.outside in
     record {
       runs = λ i i<. (line b.cells l.planes (side_of l) d i, sym (line_is_run k reflexive p b agrees l stands d i i<));

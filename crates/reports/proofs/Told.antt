@@ -23,12 +23,12 @@ use Rattle.reports.specs.TapeCall.{TapeRead, tape_fault}
 use Rattle.reports.proofs.SamePages.{page_same}
 use Rattle.reports.proofs.Splits.{split_any}
 
-module _ {C : Type 0} (k : Members C) (b : Board C) (l : Laid) (stands : standing b ≡ Some l) where
+module _ {C : Type 0} (k : Members C) (b : Board C) (l : Laid) (stands : standing b ≡ Some l) (narrow : side_of l ≤ 64) where
   abbrev area : ℕ
   area = side_of l * side_of l
 
   area_low : area ≤ 4096
-  area_low = mul-le (side_of l) (side_of l) 64 64 l.shadow.sized.1 l.shadow.sized.1
+  area_low = mul-le (side_of l) (side_of l) 64 64 narrow narrow
 
   abbrev split_asked : Option Refusal
   split_asked = ask_each (plane_question k.equal b.cells (side_of l)) l.planes

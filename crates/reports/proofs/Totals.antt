@@ -1,9 +1,13 @@
--- Bounds on sums: of marks, and of the map.
-use Rattle.std.proofs.Common.{ℕ, zero, suc, ◌*◌, ◌≤◌, Bool, cond, List, suc-mul, zero-mul, arith}
+-- Sums of equal numbers are equal; and bounds on sums: of marks, and of the map.
+use Rattle.std.proofs.Common.{◌≡◌, ℕ, zero, suc, ◌+◌, ◌*◌, ◌<◌, ◌≤◌, Bool, cond, List, refl, ap₂, suc-mul, zero-mul, arith}
 use Rattle.std.proofs.lemmas.Nat.{mul-le}
 use Rattle.std.proofs.lemmas.Bool.{cases_Bool}
 use Rattle.toom.specs.Torus.{Plane, count_marks, total}
 use Rattle.plate.specs.MapCall.{hurt_at}
+
+pub total_same : (f g : ℕ → ℕ) (n : ℕ) → ((k : ℕ) → k < n → f k ≡ g k) → total f n ≡ total g n
+total_same f g zero same = refl
+total_same f g (suc n) same = ap₂ ◌+◌ (total_same f g n (λ k h. same k (omega arith))) (same n (omega arith))
 
 total_low : (f : ℕ → ℕ) (m n : ℕ) → ((k : ℕ) → f k ≤ m) → total f n ≤ n * m
 total_low f m zero low = omega (arith, zero-mul m)

@@ -3,7 +3,7 @@ use Rattle.std.specs.Prelude.{ℕ, List, [], map, None, Some, Ok, Err, Result, s
 use Rattle.std.specs.Borrow.{Bor}
 use Rattle.std.specs.List.{range_with_len}
 use Rattle.toom.specs.declared.shadow.Shadow.{Shadow}
-use Rattle.toom.specs.Shadow.{marks}
+use Rattle.toom.specs.Shadow.{marks, side_of_shadow}
 use Rattle.plate.specs.declared.laid.Laid.{Laid}
 use Rattle.plate.specs.Board.{side_of}
 use Rattle.plate.specs.ReadCall.{read_refusal}
@@ -11,7 +11,7 @@ use Rattle.reports.specs.Report.{ended, last_line, page, place_mark}
 
 -- The marks of a row, whose part of the map this is.
 abbrev pub marked_line : (hurts : List ℕ) → Shadow → (row : ℕ) → List ℕ
-marked_line hurts s row = ended (map (λ c. place_mark (slice_index hurts c) (marks s row c)) (range_with_len 0 s.side))
+marked_line hurts s row = ended (map (λ c. place_mark (slice_index hurts c) (marks s row c)) (range_with_len 0 (side_of_shadow s)))
 
 -- The last line.
 abbrev pub reading_line : Result (Bor (List ℕ)) ℕ → List ℕ

@@ -1,6 +1,6 @@
 // The lines of a report.
 ghost use Rattle.std.specs.Prelude.{◌≡◌, ◌*◌, ◌<◌, ◌≤◌, length, slice_index};
-ghost use Rattle.toom.specs.Shadow.{marks};
+ghost use Rattle.toom.specs.Shadow.{marks, side_of_shadow};
 ghost use Rattle.toom.specs.Torus.{total};
 ghost use Rattle.plate.specs.Board.{side_of};
 ghost use Rattle.reports.specs.Page.{marked_line, page_of, reading_line};
@@ -34,8 +34,8 @@ fn place_mark(hurt: u16, shadowed: bool) -> u8
 
 // The marks of a row, whose part of the map this is.
 fn row_line(text: &mut Text<'_>, hurts: &[u16], shadow: &Shadow, row: usize)
-    requires map { length hurts.now ≡ shadow.now.side }
-    requires row { row < shadow.now.side }
+    requires map { length hurts.now ≡ side_of_shadow shadow.now }
+    requires row { row < side_of_shadow shadow.now }
     requires room { Fits text.old (marked_line hurts.now shadow.now row) }
     ensures { Appends text.old (marked_line hurts.now shadow.now row) text.new }
 {
@@ -48,9 +48,9 @@ fn row_line(text: &mut Text<'_>, hurts: &[u16], shadow: &Shadow, row: usize)
 
 // The marks, row by row.
 fn rows(text: &mut Text<'_>, hurts: &[u16], shadow: &Shadow)
-    requires map { length hurts.now ≡ shadow.now.side * shadow.now.side }
-    requires room { Fits text.old (rows shadow.now.side (λ j. slice_index hurts.now j) (marks shadow.now)) }
-    ensures { Appends text.old (rows shadow.now.side (λ j. slice_index hurts.now j) (marks shadow.now)) text.new }
+    requires map { length hurts.now ≡ side_of_shadow shadow.now * side_of_shadow shadow.now }
+    requires room { Fits text.old (rows (side_of_shadow shadow.now) (λ j. slice_index hurts.now j) (marks shadow.now)) }
+    ensures { Appends text.old (rows (side_of_shadow shadow.now) (λ j. slice_index hurts.now j) (marks shadow.now)) text.new }
 {
     for (row, row_hurts) in hurts.chunks_exact(shadow.side()).enumerate() {
         row_line(text, row_hurts, shadow, row);

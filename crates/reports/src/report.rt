@@ -9,6 +9,7 @@ use crate::page::page;
 use crate::text::Text;
 use plate::fault::ReadFault;
 use plate::laid::MAX_PLANES;
+use plate::laws::always_heals;
 use plate::plate::Plate;
 use toom::kind::Kind;
 use toom::shadow::MAX_SIDE;
@@ -21,6 +22,7 @@ pub fn report<C: Kind>(plate: &Plate<'_, C>, out: &mut [u8]) -> Result<usize, Re
     ensures outcome { ReportAnswers (members C.eq C.byte_of C.cell_of) result (board plate.now) out.old out.new }
     ensures heals { ReportGoesOn (members C.eq C.byte_of C.cell_of) result (board plate.now) out.old out.new }
 {
+    always_heals::<C>();
     try_report(plate, out)
 }
 
@@ -29,6 +31,7 @@ fn try_report<C: Kind>(plate: &Plate<'_, C>, out: &mut [u8]) -> Result<usize, Re
     ensures { ReportAnswers (members C.eq C.byte_of C.cell_of) result (board plate.now) out.old out.new }
 {
     let laid = plate.standing().ok_or(ReportFault::Bare)?;
+    let side = laid.shadow.side();
     if out.len() < REPORT_BYTES {
         return Err(ReportFault::Output);
     }
@@ -36,7 +39,6 @@ fn try_report<C: Kind>(plate: &Plate<'_, C>, out: &mut [u8]) -> Result<usize, Re
     plate.map(&mut hurts)?;
     let mut tape = [0; MAX_PLANES];
     let reading = read_tape(plate, &mut tape[..laid.planes])?;
-    let side = laid.shadow.side();
     let mut text = Text::new(out);
     page(&mut text, &laid, &hurts[..side * side], reading);
     Ok(text.len())

@@ -15,7 +15,7 @@ use Rattle.round.specs.Answer.{Answered, BitsReplied, Replied, RepliedTo}
 abbrev pub bits_entrant : Entrant Bit Elementary
 bits_entrant = entrant Bits rule_questions RuleIn (λ (host : Elementary). wolfram host.rule)
 
-all_same : (equal : Bit → Bit → Bool) → ((x y : Bit) → equal x y ≡ equal_bits x y) → equal ≡ equal_bits
+pub all_same : (equal : Bit → Bit → Bool) → ((x y : Bit) → equal x y ≡ equal_bits x y) → equal ≡ equal_bits
 all_same equal same i x y = same x y i
 
 module _ {E : Type 0} (file : List ℕ) (r : Result ℕ E) (out out' : List ℕ) (kind : FileKind) (is : kind ≡ kind_in file) where

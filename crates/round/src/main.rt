@@ -14,6 +14,7 @@ use hosts::machine::Machine;
 use reports::report::REPORT_BYTES;
 use rounds::entry::Entry;
 use rounds::file_kind::FileKind;
+use rounds::laws::rounds_pin;
 use rounds::reply::reply;
 use rounds::round::{MAX_ROUND, ROUND_CELLS, kind};
 use std::alloc::Global;
@@ -60,12 +61,21 @@ fn reply_of<C: Kind + Clone, H: Entry<C>>(
     reply::<C, H>(&mut cells, file, out).map_err(|_| anyhow!("the output is too short"))
 }
 
+// A file has one reply.
+fn replies_pin()
+    ensures { OneReplyEach }
+{
+    rounds_pin::<MachineCell, Machine>();
+    rounds_pin::<Bit, Elementary>();
+}
+
 // The reply of the kind that the file says; the play of bits refuses a file of another number. A file has one reply.
 fn answer(heap: Global, file: &[u8], out: &mut [u8]) -> anyhow::Result<usize>
     ensures answered { IfOk result (λ n. Answered file.now n out.old out.new) }
     ensures pinned { OneReplyEach }
     ensures within { IfOk result (λ n. n ≤ length out.new) }
 {
+    replies_pin();
     match kind(file) {
         FileKind::MachineCells => {
             let blank = MachineCell::from(0);

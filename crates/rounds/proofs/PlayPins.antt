@@ -7,9 +7,9 @@ use Rattle.plate.specs.declared.fault.StrikeFault.TheVariants as strikes
 use Rattle.plate.specs.History as calls
 use Rattle.plate.specs.Leads.{Leads}
 use Rattle.plate.specs.Members.{Members}
+use Rattle.plate.specs.Pins.{OutcomesPin}
 use Rattle.plate.proofs.PinnedCalls.{leads_pin}
 use Rattle.plate.proofs.PinnedFaults.{undone}
-use Rattle.plate.proofs.Pins.{outcomes_pin}
 use Rattle.plate.proofs.Standing.{not_both, some_same}
 use Rattle.runs.specs.declared.fault.RunFault.TheVariants as runs
 use Rattle.runs.specs.RunCall.{calls_of_run}
@@ -28,14 +28,14 @@ use Rattle.rounds.specs.RefusedCall.{refused_line, refused_questions, refused_re
 use Rattle.rounds.specs.ReplyCall.{Tells}
 use Rattle.rounds.specs.RoundFile.{beats_in, host_in, planes_in, script_in, side_in, tape_in}
 
-module _ {C : Type 0} (k : Members C) (host : C → C → C → C) (n side beats : ℕ) (tape script : List ℕ) (cells cells₁ cells₂ : List C)
+module _ {C : Type 0} (k : Members C) (ends_pin : OutcomesPin k) (host : C → C → C → C) (n side beats : ℕ) (tape script : List ℕ) (cells cells₁ cells₂ : List C)
     (out out₁ out₂ : List ℕ) (a a' : ℕ) where
   performs_pin : Performs k host n side beats tape script a cells cells₁ out out₁ → Performs k host n side beats tape script a' cells cells₂ out out₂
       → (a ≡ a') × (cells₁ ≡ cells₂) × (out₁ ≡ out₂)
   performs_pin x y =
-      let laid : x.laid ≡ y.laid = (outcomes_pin k (calls.Lay n side tape) (calls.Lay n side tape) refl true true record { laid = None; cells = cells } x.laid y.laid x.lays y.lays).1 in
+      let laid : x.laid ≡ y.laid = (ends_pin (calls.Lay n side tape) (calls.Lay n side tape) refl true true record { laid = None; cells = cells } x.laid y.laid x.lays y.lays).1 in
       let played : x.played ≡ y.played =
-      leads_pin k (calls_of_run host script beats) y.laid x.played y.played
+      leads_pin k ends_pin (calls_of_run host script beats) y.laid x.played y.played
       (subst (λ b. Leads k (calls_of_run host script beats) b x.played) laid x.runs) y.runs in
       let told = reports_pin k y.played out out₁ out₂ a a' (subst (λ b. Reports k b a out out₁) played x.reports) y.reports in
       (told.0, x.memory ∙ ap (λ b. b.cells) played ∙ sym y.memory, told.1)
@@ -77,12 +77,12 @@ play_undone (Run fault) = grind arith
 pub play_faults_pin : PlayFaultsPin
 play_faults_pin = undone play_fault play_back play_undone
 
-module _ {C H : Type 0} (k : Members C) (e : Entrant C H) (once : (bytes : List ℕ) (x y : H) → e.in_bytes bytes x → e.in_bytes bytes y → x ≡ y) where
+module _ {C H : Type 0} (k : Members C) (ends_pin : OutcomesPin k) (e : Entrant C H) (once : (bytes : List ℕ) (x y : H) → e.in_bytes bytes x → e.in_bytes bytes y → x ≡ y) where
   plays_pin : (file : List ℕ) (cells cells₁ cells₂ : List C) (out out₁ out₂ : List ℕ) (a a' : ℕ) → Plays k e file a cells cells₁ out out₁
       → Plays k e file a' cells cells₂ out out₂ → (a ≡ a') × (cells₁ ≡ cells₂) × (out₁ ≡ out₂)
   plays_pin file cells cells₁ cells₂ out out₁ out₂ a a' x y =
       let same : x.host ≡ y.host = once (host_in file) x.host y.host x.enters y.enters in
-      performs_pin k (e.meaning y.host) (planes_in file) (side_in file) (beats_in file) (tape_in file) (script_in file) cells cells₁ cells₂ out out₁ out₂ a a'
+      performs_pin k ends_pin (e.meaning y.host) (planes_in file) (side_in file) (beats_in file) (tape_in file) (script_in file) cells cells₁ cells₂ out out₁ out₂ a a'
       (subst
       (λ h. Performs k (e.meaning h) (planes_in file) (side_in file) (beats_in file) (tape_in file) (script_in file) a cells cells₁ out out₁)
       same x.performs) y.performs
@@ -109,11 +109,11 @@ tells_pin : (answer : Result ℕ PlayFault) (written out₁ out₂ : List ℕ) (
 tells_pin (Ok n) written out₁ out₂ r r' x y = (x.0 ∙ sym y.0, x.1 ∙ sym y.1)
 tells_pin (Err f) written out₁ out₂ r r' x y = refused_pins (play_fault f) written out₁ out₂ r r' x y
 
-module _ {C H : Type 0} (k : Members C) (e : Entrant C H) (once : (bytes : List ℕ) (x y : H) → e.in_bytes bytes x → e.in_bytes bytes y → x ≡ y) where
+module _ {C H : Type 0} (k : Members C) (ends_pin : OutcomesPin k) (e : Entrant C H) (once : (bytes : List ℕ) (x y : H) → e.in_bytes bytes x → e.in_bytes bytes y → x ≡ y) where
   pub reply_pins : ReplyPins k e
   reply_pins file cells cells₁ cells₂ out out₁ out₂ r r' x y =
       let same =
-      play_pins k e once file cells cells₁ cells₂ out x.written y.written x.answer y.answer x.plays y.plays in
+      play_pins k ends_pin e once file cells cells₁ cells₂ out x.written y.written x.answer y.answer x.plays y.plays in
       let told =
       tells_pin y.answer y.written out₁ out₂ r r'
       (subst (λ w. Tells y.answer w r out₁) same.2 (subst (λ a. Tells a x.written r out₁) same.0 x.tells)) y.tells in

@@ -1,9 +1,9 @@
 -- A performed round is the play of its file, and the healing laws hold of it.
 use Rattle.std.proofs.Common.{◌≡◌, ℕ, true, List, [], ◌∷◌, length, None, Ok, Err, Result, MatchResult}
 use mathlib.Core.Path.{transport}
+use Rattle.plate.specs.Healing.{AlwaysHeals}
 use Rattle.plate.specs.History.{Lay, new, more}
 use Rattle.plate.specs.Members.{Members}
-use Rattle.plate.proofs.Heals.{always_heals}
 use Rattle.plate.proofs.Leading.{reached_with}
 use Rattle.runs.specs.RunCall.{calls_of_run}
 use Rattle.rounds.specs.declared.fault.PlayFault.{PlayFault}
@@ -36,12 +36,11 @@ module _ {C H : Type 0} (k : Members C) (e : Entrant C H) (file : List ℕ) (cel
   )
   performed (Err f) x host good is enters never = absurd never
 
-  pub play_heals : ((x : C) → k.equal x x ≡ true) → ((x y : C) → k.equal x y ≡ true → x ≡ y) → (r : Result ℕ PlayFault)
-      → PlayHeals k e file r cells cells' out out'
-  play_heals reflexive exact (Ok n) = λ p.
+  pub play_heals : AlwaysHeals k → (r : Result ℕ PlayFault) → PlayHeals k e file r cells cells' out out'
+  play_heals heals (Ok n) = λ p.
       let host = e.meaning p.host in
       let lay = Lay (planes_in file) (side_in file) (tape_in file) in
       let laid = more lay true (new cells) p.performs.lays in
       let reached = reached_with k (calls_of_run host (script_in file) (beats_in file)) ((lay, true) ∷ []) p.performs.laid p.performs.played laid p.performs.runs in
-      (reached, always_heals k reflexive exact (round_history host file) p.performs.played reached)
-  play_heals reflexive exact (Err f) = tt
+      (reached, heals (round_history host file) p.performs.played reached)
+  play_heals heals (Err f) = tt

@@ -10,6 +10,7 @@ use crate::entry::Entry;
 use crate::fault::{HostFault, PlayFault, RefusedFault, RoundFault};
 use crate::file_kind::FileKind;
 use crate::refusal::{Refusal, Word};
+use plate::laws::outcomes_pin;
 use toom::kind::Kind;
 
 // The outcome of a play settles its end: the answer, every cell of the memory and every byte of the output. So do those of reply and
@@ -21,7 +22,9 @@ pub fn rounds_pin<C: Kind, H: Entry<C>>()
     ensures refused { RefusedPins }
     ensures kinds { FileKindsPin }
     ensures words { WordsPin }
-{}
+{
+    outcomes_pin::<C>();
+}
 
 // No round needs more than ROUND_CELLS cells.
 pub fn memory_suffices()

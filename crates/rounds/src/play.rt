@@ -11,6 +11,7 @@ use crate::entry::Entry;
 use crate::fault::PlayFault;
 use crate::round::Round;
 use plate::checks::check_lay;
+use plate::laws::always_heals;
 use plate::plate::Plate;
 use reports::fault::ReportFault;
 use reports::report::{REPORT_BYTES, report};
@@ -64,6 +65,7 @@ pub fn play<C: Kind, H: Entry<C>>(
     ensures outcome { PlayAnswers (members C.eq C.byte_of C.cell_of) (entrant H.kind H.questions H.is_in H.Host.meaning) file.now result memory.old memory.new out.old out.new }
     ensures heals { PlayHeals (members C.eq C.byte_of C.cell_of) (entrant H.kind H.questions H.is_in H.Host.meaning) file.now result memory.old memory.new out.old out.new }
 {
+    always_heals::<C>();
     let (round, host) = admit::<C, H>(file, memory.len(), out.len())?;
     perform(memory, round, &host, out)
 }

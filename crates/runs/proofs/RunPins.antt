@@ -3,6 +3,7 @@ use Rattle.std.proofs.Common.{◌≡◌, cond, eqb, get_or, refl}
 use Rattle.hosts.specs.Refusal.{Refusal}
 use Rattle.plate.specs.declared.fault.StrikeFault.TheVariants as strikes
 use Rattle.plate.specs.Members.{Members}
+use Rattle.plate.specs.Pins.{OutcomesPin}
 use Rattle.plate.proofs.PinnedCalls.{calls_pin}
 use Rattle.plate.proofs.PinnedFaults.{undone}
 use Rattle.runs.specs.declared.fault.RunFault.{RunFault}
@@ -38,6 +39,6 @@ run_undone (Strike k strikes.Byte) = refl
 pub run_faults_pin : RunFaultsPin
 run_faults_pin = undone run_fault run_back run_undone
 
-pub runs_pin : {C : Type 0} (k : Members C) → RunsPin k
-runs_pin k host script beats r r' b b₁ b₂ x y =
-    calls_pin k run_fault run_faults_pin (run_questions k.named b beats script) (calls_of_run host script beats) r r' b b₁ b₂ x y
+pub runs_pin : {C : Type 0} (k : Members C) → OutcomesPin k → RunsPin k
+runs_pin k ends_pin host script beats r r' b b₁ b₂ x y =
+    calls_pin k ends_pin run_fault run_faults_pin (run_questions k.named b beats script) (calls_of_run host script beats) r r' b b₁ b₂ x y

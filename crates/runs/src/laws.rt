@@ -5,13 +5,16 @@ ghost use Rattle.runs.specs.RunPins.{RunsPin, RunFaultsPin};
 
 use crate::fault::RunFault;
 use crate::record::Record;
+use plate::laws::outcomes_pin;
 use toom::kind::Kind;
 
 // The outcome of a run settles its end: the answer, every cell and the state.
 pub fn runs_pin<C: Kind>()
     ensures ends { RunsPin (members C.eq C.byte_of C.cell_of) }
     ensures faults { RunFaultsPin }
-{}
+{
+    outcomes_pin::<C>();
+}
 
 // `==` of records and of faults decides equality.
 pub fn sameness_is_equality()

@@ -10,6 +10,7 @@ use crate::checks::check_run;
 use crate::fault::RunFault;
 use crate::script::Script;
 use hosts::host::Host;
+use plate::laws::always_heals;
 use plate::plate::Plate;
 use toom::kind::Kind;
 
@@ -66,5 +67,6 @@ pub fn run<C: Kind, H: Host<C>>(
     ensures heals { RunGoesOn (members C.eq C.byte_of C.cell_of) (H.meaning host.now) script.now beats result (board plate.old) (board plate.new) }
     ensures same { plate.new.cells.ghost_name ≡ plate.old.cells.ghost_name }
 {
+    always_heals::<C>();
     try_run(plate, host, script, beats)
 }

@@ -1,23 +1,24 @@
 -- A thinning, vote by vote.
 use Rattle.std.proofs.Common.{◌≡◌, ℕ, ◌+◌, ◌*◌, ◌<◌, ◌≤◌, Bool, false, List, [], ◌++◌, sym, refl, ap, ◌∙◌, subst, ap₂, inl, inr, add-one, arith, below_more}
 use Rattle.std.proofs.lemmas.Bool.{cases_lt, false≢true}
+use Rattle.std.specs.Bool.{beq}
 use Rattle.toom.specs.EqualShadows.{equal_shadows_decides}
 use Rattle.toom.specs.declared.shadow.Shadow.{Shadow}
-use Rattle.toom.specs.Shadow.{marks, equal_shadows, IsShadow, MarksPin}
+use Rattle.toom.specs.Shadow.{marks, side_of_shadow, equal_shadows, IsShadow, MarksPin}
 use Rattle.toom.specs.ShadowCalls.{Voted}
-use Rattle.toom.specs.Torus.{Plane}
-use Rattle.toom.specs.Vote.{thinned, thinned_by}
+use Rattle.toom.specs.Torus.{Plane, SameCounts, SameOnTorus}
+use Rattle.toom.specs.Vote.{SameVotes, thinned, thinned_by}
 use Rattle.thin.specs.declared.trace.Ending.{Ending}
 use Rattle.thin.specs.declared.trace.Ending.TheVariants.{Empty, Unchanged, StillChanging}
 use Rattle.thin.specs.Picture.{frame}
 use Rattle.thin.specs.Trace.{Stays, NoMarks, Ends, GoesOn, Thinning, ThinningPins, frames, ending_line}
 use Rattle.thin.proofs.Pictures.{joined_counting}
-use Rattle.thin.proofs.Planes.{Same, frame_same, thinned_same, ends_same, goes_on_same}
+use Rattle.thin.proofs.Planes.{frame_same, ends_same, goes_on_same}
 
 -- A shadow that its vote changes has changed marks.
-pub moved : (s t : Shadow) → MarksPin → Voted s t → (t ≡ s → ⊥) → Stays s.side (marks s) → ⊥
+pub moved : (s t : Shadow) → MarksPin → Voted s t → (t ≡ s → ⊥) → Stays (side_of_shadow s) (marks s) → ⊥
 moved s t pin voted other stays =
-    other (pin t s s.side (thinned s.side (marks s)) voted (record { sides = refl; places = λ r c h k. sym (stays r c h k) }))
+    other (pin t s (side_of_shadow s) (thinned (side_of_shadow s) (marks s)) voted (record { sides = refl; places = λ r c h k. sym (stays r c h k) }))
 
 -- Shadows that do not compare as equal are not equal.
 pub unlike : (s t : Shadow) → false ≡ equal_shadows s t → s ≡ t → ⊥
@@ -39,37 +40,37 @@ module _ {side : ℕ} {plane : Plane Bool} {votes : ℕ} where
 
 -- The shadow `now` is `start` after so many votes, at none of which the thinning ended, and the text has what was printed of those before.
 pub record SoFar (start now : Shadow) (votes : ℕ) (text : List ℕ) : Type 0 where
-  pub is : IsShadow now start.side (thinned_by votes start.side (marks start))
-  pub before : (j : ℕ) → j < votes → GoesOn start.side (thinned_by j start.side (marks start)) j
-  pub printed : text ≡ frames start.side (marks start) votes
-  pub within : votes ≤ start.side * start.side
+  pub is : IsShadow now (side_of_shadow start) (thinned_by votes (side_of_shadow start) (marks start))
+  pub before : (j : ℕ) → j < votes → GoesOn (side_of_shadow start) (thinned_by j (side_of_shadow start) (marks start)) j
+  pub printed : text ≡ frames (side_of_shadow start) (marks start) votes
+  pub within : votes ≤ side_of_shadow start * side_of_shadow start
 
-module _ {start now : Shadow} {votes : ℕ} {text : List ℕ} (old : SoFar start now votes text) where
-  same : Same start.side (marks now) (thinned_by votes start.side (marks start))
+module _ (same_votes : SameVotes beq) (counts : SameCounts) {start now : Shadow} {votes : ℕ} {text : List ℕ} (old : SoFar start now votes text) where
+  same : SameOnTorus (side_of_shadow start) (marks now) (thinned_by votes (side_of_shadow start) (marks start))
   same = old.is.places
 
-  frame_here : frame now.side (marks now) ≡ frame start.side (thinned_by votes start.side (marks start))
-  frame_here = ap (λ side. frame side (marks now)) old.is.sides ∙ frame_same same
+  frame_here : frame (side_of_shadow now) (marks now) ≡ frame (side_of_shadow start) (thinned_by votes (side_of_shadow start) (marks start))
+  frame_here = ap (λ side. frame side (marks now)) old.is.sides ∙ frame_same counts same
 
-  here_goes_on : GoesOn now.side (marks now) votes → GoesOn start.side (thinned_by votes start.side (marks start)) votes
-  here_goes_on on = goes_on_same same votes (subst (λ side. GoesOn side (marks now) votes) old.is.sides on)
+  here_goes_on : GoesOn (side_of_shadow now) (marks now) votes → GoesOn (side_of_shadow start) (thinned_by votes (side_of_shadow start) (marks start)) votes
+  here_goes_on on = goes_on_same same_votes counts same votes (subst (λ side. GoesOn side (marks now) votes) old.is.sides on)
 
   -- It has not come to the limit.
-  pub early : GoesOn now.side (marks now) votes → votes < start.side * start.side
+  pub early : GoesOn (side_of_shadow now) (marks now) votes → votes < side_of_shadow start * side_of_shadow start
   early on = below_limit (here_goes_on on) old.within
 
-  printed_more : {more : List ℕ} → more ≡ text ++ frame now.side (marks now) → more ≡ frames start.side (marks start) (votes + 1)
+  printed_more : {more : List ℕ} → more ≡ text ++ frame (side_of_shadow now) (marks now) → more ≡ frames (side_of_shadow start) (marks start) (votes + 1)
   printed_more e =
-      e ∙ ap (λ l. l ++ frame now.side (marks now)) old.printed ∙ ap (λ l. frames start.side (marks start) votes ++ l) frame_here
-      ∙ joined_counting (λ j. frame start.side (thinned_by j start.side (marks start))) [] votes
+      e ∙ ap (λ l. l ++ frame (side_of_shadow now) (marks now)) old.printed ∙ ap (λ l. frames (side_of_shadow start) (marks start) votes ++ l) frame_here
+      ∙ joined_counting (λ j. frame (side_of_shadow start) (thinned_by j (side_of_shadow start) (marks start))) [] votes
 
-  pub one_more : {next : Shadow} {more : List ℕ} → Voted now next → GoesOn now.side (marks now) votes
-      → more ≡ text ++ frame now.side (marks now) → SoFar start next (votes + 1) more
+  pub one_more : {next : Shadow} {more : List ℕ} → Voted now next → GoesOn (side_of_shadow now) (marks now) votes
+      → more ≡ text ++ frame (side_of_shadow now) (marks now) → SoFar start next (votes + 1) more
   one_more {next} voted on e = record {
     is = record {
       sides = voted.sides ∙ old.is.sides;
       places = λ r c h k. rw add-one (
-          (subst (λ side. IsShadow next side (thinned side (marks now))) old.is.sides voted).places r c h k ∙ thinned_same same r c h k
+          (subst (λ side. IsShadow next side (thinned side (marks now))) old.is.sides voted).places r c h k ∙ same_votes _ _ _ same r c h k
           );
     };
     before = below_more _ votes old.before (here_goes_on on);
@@ -77,13 +78,13 @@ module _ {start now : Shadow} {votes : ℕ} {text : List ℕ} (old : SoFar start
     within = omega (arith, early on);
   }
 
-  pub last : (ending : Ending) {more whole : List ℕ} → Ends now.side (marks now) votes ending
-      → more ≡ text ++ frame now.side (marks now) → whole ≡ more ++ ending_line ending votes
-      → Thinning start.side (marks start) whole
+  pub last : (ending : Ending) {more whole : List ℕ} → Ends (side_of_shadow now) (marks now) votes ending
+      → more ≡ text ++ frame (side_of_shadow now) (marks now) → whole ≡ more ++ ending_line ending votes
+      → Thinning (side_of_shadow start) (marks start) whole
   last ending ends e w = record {
     votes = votes;
     ending = ending;
-    ends = ends_same same votes ending (subst (λ side. Ends side (marks now) votes ending) old.is.sides ends);
+    ends = ends_same same_votes counts same votes ending (subst (λ side. Ends side (marks now) votes ending) old.is.sides ends);
     first = old.before;
     whole = w ∙ ap (λ l. l ++ ending_line ending votes) (printed_more e);
   }

@@ -4,7 +4,7 @@ use Rattle.std.specs.Borrow.{Bor}
 use Rattle.std.specs.Option as options
 use Rattle.std.specs.Result as results
 use Rattle.toom.specs.declared.shadow.Shadow.{Shadow}
-use Rattle.toom.specs.Shadow.{marks, no_marks, IsShadow}
+use Rattle.toom.specs.Shadow.{marks, side_of_shadow, no_marks, IsShadow}
 use Rattle.thin.specs.declared.input.Cause.{Cause}
 use Rattle.thin.specs.declared.input.Cause.TheVariants.{NoNumber}
 use Rattle.thin.specs.Input.{side_fault, said_side, place_fault, says}
@@ -28,5 +28,5 @@ SideRead line r =
 -- The shadow with the place too that the line says, if it says one; as it was if the line is at fault.
 abbrev pub PlaceMarked : {X : Type 0} → (before : Shadow) → List ℕ → Result X Cause → (after : Shadow) → Type 0
 PlaceMarked before line r after =
-    results.MatchResult r (λ _. (place_fault before.side (words line) ≡ None) × IsShadow after before.side (λ r c. marks before r c || says (words line) r c))
-    (λ cause. (place_fault before.side (words line) ≡ Some cause) × (after ≡ before))
+    results.MatchResult r (λ _. (place_fault (side_of_shadow before) (words line) ≡ None) × IsShadow after (side_of_shadow before) (λ r c. marks before r c || says (words line) r c))
+    (λ cause. (place_fault (side_of_shadow before) (words line) ≡ Some cause) × (after ≡ before))

@@ -2,11 +2,12 @@
 ghost use Rattle.std.specs.Prelude.{◌≡◌, ◌<◌, [], ◌∷◌, Some, IfOk, string_bytes, MatchOption};
 ghost use Rattle.thin.specs.Picture.{Appended, mark, row_line, picture, count_line, frame};
 ghost use Rattle.thin.specs.Trace.{Ends, GoesOn, Thinning, ThinningPins, ending_name, ending_line};
-ghost use Rattle.toom.specs.Shadow.{marks, OnTorus};
+ghost use Rattle.toom.specs.Shadow.{marks, side_of_shadow, OnTorus};
 ghost use Rattle.toom.specs.ShadowCalls.{Voted};
 
 use std::alloc::{AllocError, Global};
 use std::fmt;
+use toom::laws::{marks_pin, only_the_torus_counts};
 use toom::shadow::Shadow;
 
 // How a thinning ends.
@@ -41,8 +42,9 @@ fn mark_of(shadow: &Shadow, row: usize, column: usize) -> &'static str
 }
 
 fn push_row(text: &mut String, shadow: &Shadow, row: usize) -> Result<(), AllocError>
-    requires { row < shadow.now.side }
-    ensures { Appended text.old result text.new (row_line shadow.now.side (marks shadow.now) row) }
+    requires { row < side_of_shadow shadow.now }
+    ensures { Appended text.old result text.new
+        (row_line (side_of_shadow shadow.now) (marks shadow.now) row) }
 {
     for column in 0..shadow.side() {
         text.push_str(mark_of(shadow, row, column))?;
@@ -51,7 +53,8 @@ fn push_row(text: &mut String, shadow: &Shadow, row: usize) -> Result<(), AllocE
 }
 
 fn push_picture(text: &mut String, shadow: &Shadow) -> Result<(), AllocError>
-    ensures { Appended text.old result text.new (picture shadow.now.side (marks shadow.now)) }
+    ensures { Appended text.old result text.new
+        (picture (side_of_shadow shadow.now) (marks shadow.now)) }
 {
     for row in 0..shadow.side() {
         push_row(text, shadow, row)?;
@@ -60,14 +63,16 @@ fn push_picture(text: &mut String, shadow: &Shadow) -> Result<(), AllocError>
 }
 
 fn push_count(text: &mut String, shadow: &Shadow) -> Result<(), AllocError>
-    ensures { Appended text.old result text.new (count_line shadow.now.side (marks shadow.now)) }
+    ensures { Appended text.old result text.new
+        (count_line (side_of_shadow shadow.now) (marks shadow.now)) }
 {
     let count = shadow.count();
     writeln!(text, "count {count}")
 }
 
 fn push_frame(text: &mut String, shadow: &Shadow) -> Result<(), AllocError>
-    ensures { Appended text.old result text.new (frame shadow.now.side (marks shadow.now)) }
+    ensures { Appended text.old result text.new
+        (frame (side_of_shadow shadow.now) (marks shadow.now)) }
 {
     push_picture(text, shadow)?;
     push_count(text, shadow)
@@ -82,8 +87,11 @@ fn push_ending(text: &mut String, ending: Ending, votes: usize) -> Result<(), Al
 // Votes the shadow to which a thinning has come by so many votes. Says how the thinning ends there, or nothing if it goes on.
 fn vote_or_end(shadow: &mut Shadow, votes: usize) -> Option<Ending>
     ensures after { Voted shadow.old shadow.new }
-    ensures cases { MatchOption result (GoesOn shadow.old.side (marks shadow.old) votes) (Ends shadow.old.side (marks shadow.old) votes) }
+    ensures cases { MatchOption result
+        (GoesOn (side_of_shadow shadow.old) (marks shadow.old) votes)
+        (Ends (side_of_shadow shadow.old) (marks shadow.old) votes) }
 {
+    marks_pin();
     let before = *shadow;
     shadow.vote();
     if before.count() == 0 {
@@ -98,9 +106,11 @@ fn vote_or_end(shadow: &mut Shadow, votes: usize) -> Option<Ending>
 }
 
 pub fn thinning(heap: Global, mut shadow: Shadow) -> Result<String, AllocError>
-    ensures text { IfOk result (λ text. Thinning shadow.side (marks shadow) (string_bytes text)) }
+    ensures text { IfOk result
+        (λ text. Thinning (side_of_shadow shadow) (marks shadow) (string_bytes text)) }
     ensures pinned { ThinningPins }
 {
+    only_the_torus_counts();
     let mut text = String::new(heap);
     let mut votes = 0;
     loop {

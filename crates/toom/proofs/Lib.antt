@@ -3,6 +3,7 @@ pub mod Emptiness
 pub mod FullLines
 pub mod Inclusions
 pub mod Modular
+pub mod Places
 pub mod RowVotes
 pub mod RowWords
 pub mod Shadows

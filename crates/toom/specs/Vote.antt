@@ -1,7 +1,7 @@
 -- Toom's vote of a place, and of a whole plane.
 use Rattle.std.specs.Prelude.{◌≡◌, ℕ, zero, suc, ◌+◌, ◌≤◌, Bool, false, cond}
 use Rattle.std.specs.Bool.{beq}
-use Rattle.toom.specs.Torus.{Plane, next, Everywhere}
+use Rattle.toom.specs.Torus.{Plane, next, Everywhere, SameOnTorus}
 
 -- Toom's vote: north, if `equal` says that east is the same cell; if not, the own cell.
 abbrev pub vote_of : {C : Type 0} → (C → C → Bool) → (north east own : C) → C
@@ -10,6 +10,12 @@ vote_of equal north east own = cond (equal north east) north own
 -- The voted plane: at each place the vote of its north, its east and itself, all from the old plane.
 abbrev pub voted : {C : Type 0} → (C → C → Bool) → ℕ → Plane C → Plane C
 voted equal side plane r c = vote_of equal (plane (next side r) c) (plane r (next side c)) (plane r c)
+
+-- Planes that are the same on the torus vote alike: what a plane has off the torus has no say.
+abbrev pub SameVotes : {C : Type 0} → (C → C → Bool) → Type 0
+SameVotes {C} equal =
+    (side : ℕ) (plane other : Plane C) → SameOnTorus side plane other
+    → SameOnTorus side (voted equal side plane) (voted equal side other)
 
 -- The vote of a plane of bits, and the plane after j votes.
 abbrev pub thinned : ℕ → Plane Bool → Plane Bool

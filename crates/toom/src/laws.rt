@@ -1,12 +1,14 @@
 // The laws of the vote and of the shadow, each the contract of a function that does nothing.
 ghost use Rattle.std.specs.Prelude.{◌≡◌, Decides};
+ghost use Rattle.std.specs.Bool.{beq};
 ghost use Rattle.toom.specs.Bit.{equal_bits};
 ghost use Rattle.toom.specs.Inclusion.{VoteKeepsInclusion};
-ghost use Rattle.toom.specs.MachineCell.{SameParts, equal_machine_cells};
+ghost use Rattle.toom.specs.MachineCell.{PartsMakeCells, SameParts, equal_machine_cells};
 ghost use Rattle.toom.specs.Lines.{LinesStay, BoundIsSharp};
-ghost use Rattle.toom.specs.Shadow.{MarksPin, equal_shadows};
+ghost use Rattle.toom.specs.Shadow.{MarksPin, SidesFit, equal_shadows};
+ghost use Rattle.toom.specs.Torus.{SameCounts};
 ghost use Rattle.toom.specs.Triangle.{TriangleShrinks, TriangleVanishes};
-ghost use Rattle.toom.specs.Vote.{OneWounded, HealsOutside};
+ghost use Rattle.toom.specs.Vote.{OneWounded, HealsOutside, SameVotes};
 
 use crate::bit::Bit;
 use crate::kind::Kind;
@@ -19,14 +21,22 @@ pub fn vote_heals<C: Kind>()
     ensures planes { HealsOutside C.eq }
 {}
 
-// A machine cell is its head and its symbol, and nothing else.
-pub fn parts_pin()
-    ensures { (x y : MachineCell) → SameParts x y → x ≡ y }
+// Only the places of the torus count: shadows that are the same there vote alike, and have as many marks.
+pub fn only_the_torus_counts()
+    ensures votes { SameVotes beq }
+    ensures marks { SameCounts }
 {}
 
-// A shadow is its side and its marks, so the vote depends on nothing but the bits.
+// A machine cell is its head and its symbol, and nothing else; every two numbers of at most 15 are those of a cell.
+pub fn parts_pin()
+    ensures pin { (x y : MachineCell) → SameParts x y → x ≡ y }
+    ensures make { PartsMakeCells }
+{}
+
+// A shadow is its side, which a torus may have, and its marks, so the vote depends on nothing but the bits.
 pub fn marks_pin()
-    ensures { MarksPin }
+    ensures pin { MarksPin }
+    ensures sides { SidesFit }
 {}
 
 // A shadow in a right triangle shrinks by one with each vote, until it is empty.

@@ -1,7 +1,9 @@
 -- The worked examples, most of them by computation.
 use Rattle.std.proofs.Common.{[], ◌∷◌, is_some, None, unwrap_or, refl, ap, arith}
 use Rattle.std.specs.Option.{option_map}
+use Rattle.std.specs.Bool.{beq}
 use Rattle.toom.specs.Bit.{byte_of_bit}
+use Rattle.toom.specs.Vote.{SameVotes}
 use Rattle.hosts.specs.Refusal.{ask}
 use Rattle.plate.specs.ReadCall.{read_refusal}
 use Rattle.worked.specs.Worked.{WorkedExamples}
@@ -9,8 +11,8 @@ use Rattle.worked.proofs.Beavers.{beaver_there, beaver_does}
 use Rattle.worked.proofs.Ones.{few, half, many}
 use Rattle.worked.proofs.Places.{same_marks, stays}
 
-pub worked_examples : WorkedExamples
-worked_examples = record {
+pub worked_examples : SameVotes beq → WorkedExamples
+worked_examples same_votes = record {
   bits_vote = refl;
   machine_cells_vote = refl;
   rule_110_once = refl;
@@ -21,7 +23,7 @@ worked_examples = record {
   beaver_does = beaver_does;
   corner_once = same_marks 4 _ _ refl;
   corner_twice = same_marks 4 _ _ refl;
-  row_stays = stays 4 _ (same_marks 4 _ _ refl);
+  row_stays = stays same_votes 4 _ (same_marks 4 _ _ refl);
   row_of_two = refl;
   record_read = refl;
   seven_ones = λ cells of.

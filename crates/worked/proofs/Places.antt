@@ -1,11 +1,10 @@
 -- The places of a torus, compared all at once.
 use Rattle.std.proofs.Common.{◌≡◌, ℕ, zero, suc, ◌<◌, Bool, false, List, [], map, get_or, sym, refl, ap, ◌∙◌, arith}
 use Rattle.std.proofs.lemmas.List.FromFn.{get_or-map-range_with_len}
+use Rattle.std.specs.Bool.{beq}
 use Rattle.std.specs.List.{range_with_len}
-use Rattle.toom.specs.Torus.{Plane, next}
-use Rattle.toom.specs.Vote.{thinned, thinned_by}
-use Rattle.toom.proofs.Modular.{next_below}
-use Rattle.worked.specs.Named.{SameMarks}
+use Rattle.toom.specs.Torus.{Plane, SameOnTorus}
+use Rattle.toom.specs.Vote.{SameVotes, thinned, thinned_by}
 
 -- The marks, row by row.
 abbrev pub picture : ℕ → Plane Bool → List (List Bool)
@@ -17,15 +16,13 @@ in_picture side plane r c r< c< =
     ∙ get_or-map-range_with_len (plane r) 0 side c c false c< (omega arith)
 
 -- Shadows of the same picture have the same places.
-pub same_marks : (side : ℕ) (p q : Plane Bool) → picture side p ≡ picture side q → SameMarks side p q
+pub same_marks : (side : ℕ) (p q : Plane Bool) → picture side p ≡ picture side q → SameOnTorus side p q
 same_marks side p q same r c r< c< =
     sym (in_picture side p r c r< c<) ∙ ap (λ s. get_or (get_or s r []) c false) same ∙ in_picture side q r c r< c<
 
 -- A shadow that one vote leaves as it is, every number of votes does.
-pub stays : (side : ℕ) (shadow : Plane Bool) → SameMarks side (thinned side shadow) shadow
-    → (j : ℕ) → SameMarks side (thinned_by j side shadow) shadow
-stays side shadow once zero r c r< c< = refl
-stays side shadow once (suc j) r c r< c< =
-    let before = stays side shadow once j in
-    rw (before (next side r) c (next_below side r r<) c<, before r (next side c) r< (next_below side c c<), before r c r< c<)
-    (once r c r< c<)
+pub stays : SameVotes beq → (side : ℕ) (shadow : Plane Bool) → SameOnTorus side (thinned side shadow) shadow
+    → (j : ℕ) → SameOnTorus side (thinned_by j side shadow) shadow
+stays same_votes side shadow once zero r c r< c< = refl
+stays same_votes side shadow once (suc j) r c r< c< =
+    same_votes side _ shadow (stays same_votes side shadow once j) r c r< c< ∙ once r c r< c<

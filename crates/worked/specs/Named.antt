@@ -1,5 +1,5 @@
 -- The cells, rings and shadows of the examples, from their bytes and places.
-use Rattle.std.specs.Prelude.{◌≡◌, ℕ, zero, suc, Bool, List, [], ◌∷◌, map, length, slice_index}
+use Rattle.std.specs.Prelude.{ℕ, zero, suc, Bool, List, [], ◌∷◌, map, length, slice_index}
 use Rattle.std.specs.List.{range_with_len}
 use Rattle.std.specs.Option.{unwrap_or}
 use Rattle.toom.specs.declared.bit.Bit.{Bit}
@@ -8,7 +8,7 @@ use Rattle.toom.specs.declared.machine_cell.MachineCell.{MachineCell}
 use Rattle.toom.specs.Bit.{byte_of_bit, bit_of_byte}
 use Rattle.toom.specs.MachineCell.{byte_of_machine_cell, machine_cell_of_byte}
 use Rattle.toom.specs.Shadow.{no_marks, with_mark}
-use Rattle.toom.specs.Torus.{Plane, Everywhere}
+use Rattle.toom.specs.Torus.{Plane}
 use Rattle.hosts.specs.Digit.{zero_digit, cell}
 use Rattle.hosts.specs.Ring.{stepped}
 
@@ -41,7 +41,3 @@ machine_cells_after = bytes_after machine_cell byte_of_machine_cell
 abbrev pub marked : List (ℕ × ℕ) → Plane Bool
 marked [] = no_marks
 marked (p ∷ ps) = with_mark (marked ps) p.0 p.1
-
--- The same places of the torus are marked.
-abbrev pub SameMarks : ℕ → (shadow other : Plane Bool) → Type 0
-SameMarks side shadow other = Everywhere side (λ r c. shadow r c ≡ other r c)

@@ -6,6 +6,7 @@ use Rattle.toom.specs.declared.machine_cell.MachineCell.{MachineCell}
 use Rattle.toom.specs.Bit.{equal_bits, byte_of_bit}
 use Rattle.toom.specs.MachineCell.{equal_machine_cells, byte_of_machine_cell}
 use Rattle.toom.specs.Rows.{row_word}
+use Rattle.toom.specs.Torus.{SameOnTorus}
 use Rattle.toom.specs.Vote.{vote_of, thinned_by}
 use Rattle.hosts.specs.declared.machine.Machine.{Machine}
 use Rattle.hosts.specs.Elementary.{wolfram}
@@ -14,7 +15,7 @@ use Rattle.hosts.specs.MachineRule.{machine_rule}
 use Rattle.plate.specs.Board.{plane_of}
 use Rattle.plate.specs.ReadCall.{holders, majority_of, reading, plane_question, read_refusal}
 use Rattle.runs.specs.Script.{record_in}
-use Rattle.worked.specs.Named.{bit, machine_cell, bits_after, machine_cells_after, marked, SameMarks}
+use Rattle.worked.specs.Named.{bit, machine_cell, bits_after, machine_cells_after, marked}
 
 -- The machine file of the two-state busy beaver; its state 3 stands still.
 abbrev pub beaver : List ℕ
@@ -51,11 +52,11 @@ pub record WorkedExamples : Type 0 where
   pub beaver_there : (m : Machine) × MachineIn beaver m
   pub beaver_does : (m : Machine) → MachineIn beaver m → BeaverDoes (machine_rule m)
   -- A shadow of side 4 with the places (0, 0), (0, 1) and (1, 0): after one vote it is (0, 0) alone, after two it is empty.
-  pub corner_once : SameMarks 4 (thinned_by 1 4 (marked ((0, 0) ∷ (0, 1) ∷ (1, 0) ∷ []))) (marked ((0, 0) ∷ []))
-  pub corner_twice : SameMarks 4 (thinned_by 2 4 (marked ((0, 0) ∷ (0, 1) ∷ (1, 0) ∷ []))) (marked [])
+  pub corner_once : SameOnTorus 4 (thinned_by 1 4 (marked ((0, 0) ∷ (0, 1) ∷ (1, 0) ∷ []))) (marked ((0, 0) ∷ []))
+  pub corner_twice : SameOnTorus 4 (thinned_by 2 4 (marked ((0, 0) ∷ (0, 1) ∷ (1, 0) ∷ []))) (marked [])
   -- The shadow of side 4 that is all of row 0 stays as it is, after any number of votes.
   pub row_stays : (j : ℕ)
-      → SameMarks 4 (thinned_by j 4 (marked ((0, 0) ∷ (0, 1) ∷ (0, 2) ∷ (0, 3) ∷ []))) (marked ((0, 0) ∷ (0, 1) ∷ (0, 2) ∷ (0, 3) ∷ []))
+      → SameOnTorus 4 (thinned_by j 4 (marked ((0, 0) ∷ (0, 1) ∷ (0, 2) ∷ (0, 3) ∷ []))) (marked ((0, 0) ∷ (0, 1) ∷ (0, 2) ∷ (0, 3) ∷ []))
   -- Row 0 of the shadow of side 4 with its columns 0 and 1 is the word C000000000000000.
   pub row_of_two : row_word 4 (marked ((0, 0) ∷ (0, 1) ∷ []) 0) ≡ 0xC000_0000_0000_0000
   -- The record 00 00 10 01 08 20 00 00 strikes plane 1 at (2, 2) with 00 after beat 1, and its spare bits are 0.

@@ -11,6 +11,7 @@ ghost use Rattle.plate.specs.Plates.{board, members, Answers, GoesOn};
 
 use crate::fault::{BeatFault, LayFault, MapFault, ReadFault, ShadowFault, StrikeFault};
 use crate::laid::Laid;
+use crate::laws::always_heals;
 use crate::plate::Plate;
 use hosts::host::Host;
 use toom::kind::Kind;
@@ -40,6 +41,7 @@ impl<'a, C: Kind> Plate<'a, C> {
         ensures heals { GoesOn (members C.eq C.byte_of C.cell_of) (Lay planes side tape.now) result (board self.old) (board self.new) }
         ensures same { self.new.cells.ghost_name ≡ self.old.cells.ghost_name }
     {
+        always_heals::<C>();
         self.try_lay(planes, side, tape)
     }
 
@@ -49,6 +51,7 @@ impl<'a, C: Kind> Plate<'a, C> {
         ensures heals { GoesOn (members C.eq C.byte_of C.cell_of) (Strike strike.plane strike.row strike.column strike.byte) result (board self.old) (board self.new) }
         ensures same { self.new.cells.ghost_name ≡ self.old.cells.ghost_name }
     {
+        always_heals::<C>();
         self.try_strike(strike)
     }
 
@@ -58,6 +61,7 @@ impl<'a, C: Kind> Plate<'a, C> {
         ensures heals { GoesOn (members C.eq C.byte_of C.cell_of) (Beat (H.meaning host.now)) result (board self.old) (board self.new) }
         ensures same { self.new.cells.ghost_name ≡ self.old.cells.ghost_name }
     {
+        always_heals::<C>();
         self.try_beat(host)
     }
 
@@ -69,6 +73,7 @@ impl<'a, C: Kind> Plate<'a, C> {
             result (board self.old) (board self.new) }
         ensures same { self.new.cells.ghost_name ≡ self.old.cells.ghost_name }
     {
+        always_heals::<C>();
         self.try_beats(host, times)
     }
 
@@ -77,6 +82,7 @@ impl<'a, C: Kind> Plate<'a, C> {
         ensures outcome { Answers (members C.eq C.byte_of C.cell_of) read_fault (Read out.old out.new) result (board self.now) (board self.now) }
         ensures heals { GoesOn (members C.eq C.byte_of C.cell_of) (Read out.old out.new) result (board self.now) (board self.now) }
     {
+        always_heals::<C>();
         self.try_read(out)
     }
 
@@ -85,6 +91,7 @@ impl<'a, C: Kind> Plate<'a, C> {
         ensures outcome { Answers (members C.eq C.byte_of C.cell_of) map_fault (Map out.old out.new) result (board self.now) (board self.now) }
         ensures heals { GoesOn (members C.eq C.byte_of C.cell_of) (Map out.old out.new) result (board self.now) (board self.now) }
     {
+        always_heals::<C>();
         self.try_map(out)
     }
 
@@ -93,6 +100,7 @@ impl<'a, C: Kind> Plate<'a, C> {
         ensures outcome { Answers (members C.eq C.byte_of C.cell_of) shadow_fault (Show out.old out.new) result (board self.now) (board self.now) }
         ensures heals { GoesOn (members C.eq C.byte_of C.cell_of) (Show out.old out.new) result (board self.now) (board self.now) }
     {
+        always_heals::<C>();
         self.try_shadow(out)
     }
 }

@@ -3,7 +3,6 @@ use Rattle.toom.specs.MachineCells.{cells_equal}
 use Rattle.toom.specs.declared.bit.Bit.TheVariants.{Zero, One}
 use Rattle.rounds.specs.declared.file_kind.FileKind.TheVariants.{MachineCells}
 use Rattle.round.proofs.Answering.{answered_as, answered_as_bits}
-use Rattle.round.proofs.Pinning.{one_reply_each}
 use Rattle.round.proofs.answer.Goals as goal
 
 pub returns-in-MachineCells-clause-answered : goal.returns-in-MachineCells-clause-answered
@@ -19,9 +18,3 @@ returns-in-Bits-clause-answered c =
 
 pub reply_of-requires-clause-blank : goal.reply_of-requires-clause-blank
 reply_of-requires-clause-blank c = ap Some (cells_equal _ _ (omega arith))
-
-pub returns-in-MachineCells-clause-pinned : goal.returns-in-MachineCells-clause-pinned
-returns-in-MachineCells-clause-pinned c = one_reply_each
-
-pub returns-in-Bits-clause-pinned : goal.returns-in-Bits-clause-pinned
-returns-in-Bits-clause-pinned c = one_reply_each

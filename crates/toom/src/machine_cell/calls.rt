@@ -1,6 +1,6 @@
 // The calls of a machine cell.
 ghost use Rattle.std.specs.Prelude.{◌≡◌, ◌≤◌, IfSome, IfNone};
-ghost use Rattle.toom.specs.MachineCell.{head_of_cell, symbol_of_cell};
+ghost use Rattle.toom.specs.MachineCell.{byte_of_machine_cell, head_of_cell, symbol_of_cell};
 
 use crate::machine_cell::MachineCell;
 
@@ -33,7 +33,7 @@ impl MachineCell {
 
 // The cell that the byte names: every byte names one.
 impl From<u8> for MachineCell {
-    ghost from_gives = { λ byte x. x.byte ≡ byte };
+    ghost from_gives = { λ byte x. byte_of_machine_cell x ≡ byte };
 
     fn from(byte: u8) -> MachineCell {
         MachineCell { byte }

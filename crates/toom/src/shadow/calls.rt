@@ -1,8 +1,8 @@
 // The calls on a shadow: make it empty, add a place, ask one, vote it whole, count its places, ask whether there are any, write its rows.
 ghost use Rattle.std.specs.Prelude.{◌≡◌, ◌↔◌, IsTrue, false};
-ghost use Rattle.toom.specs.Shadow.{marks};
+ghost use Rattle.toom.specs.Shadow.{marks, side_of_shadow};
 ghost use Rattle.toom.specs.ShadowCalls.{Emptied, Asked, Added, Voted, Written};
-ghost use Rattle.toom.specs.Torus.{Everywhere, count_marks};
+ghost use Rattle.toom.specs.Torus.{Everywhere, Side, count_marks};
 
 use crate::rows::{are_clear, count_columns, vote_rows, with_column};
 use crate::shadow::{MAX_SIDE, MIN_SIDE, Shadow};
@@ -29,7 +29,8 @@ impl Shadow {
     }
 
     pub fn side(&self) -> usize
-        ensures { result ≡ self.now.side }
+        ensures side { result ≡ side_of_shadow self.now }
+        ensures sized { Side result }
     {
         self.side
     }
@@ -65,14 +66,15 @@ impl Shadow {
 
     #[tactic(auto, using(crate::proofs::Shadows::counted_all))]
     pub fn count(&self) -> usize
-        ensures { result ≡ count_marks self.now.side (marks self.now) }
+        ensures { result ≡ count_marks (side_of_shadow self.now) (marks self.now) }
     {
         count_columns(&self.rows[..self.side])
     }
 
     // Whether no place is marked.
     pub fn is_empty(&self) -> bool
-        ensures { IsTrue result ↔ Everywhere self.now.side (λ r c. marks self.now r c ≡ false) }
+        ensures { IsTrue result
+            ↔ Everywhere (side_of_shadow self.now) (λ r c. marks self.now r c ≡ false) }
     {
         are_clear(&self.rows[..self.side])
     }

@@ -31,8 +31,8 @@ loop-column-preserved c =
                 (c.loop-column.invariant.1 q low l)
             | inr g ↦
                 let same : column ≡ q = omega arith in
-                let north : c.after-north.result ≡ next side row = c.after-north.ensures ∙ (λ z. next (c.side-side.ensures z) row) in
-                let east : c.after.result ≡ next side column = c.after.ensures ∙ (λ z. next (c.side-side.ensures z) column) in
+                let north : c.after-north.result ≡ next side row = c.after-north.ensures ∙ (λ z. next (c.side-side.ensures.side z) row) in
+                let east : c.after.result ≡ next side column = c.after.ensures ∙ (λ z. next (c.side-side.ensures.side z) column) in
                 let one = either_stays w mid new second c.after-north.result column (omega (arith, before.side, first.side, north, next_below side row c.requires.row)) (omega (arith, before.side, first.side)) c.add_sound.ensures.either in
                 subst (λ m. ReadsEither side w (marks new) row m) same
                 (subst (λ m. InEither w (marks new) m column) north one, subst (λ m. InEither w (marks new) row m) east c.add_sound-in-loop-column.ensures.either)

@@ -12,8 +12,8 @@ loop-stretch-init c =
     let reader = c.into_iter-stretch-iterator.ensures.into_iter_gives in
     let stands = c.stretches-stretch-items.ensures in (
       ap (λ t. t.shadow.now) reader ∙ stands.shadow,
-      is.sides ∙ c.side.ensures,
-      λ r q hr hq marked. absurd (both_ways _ (is.places r q (omega (arith, c.side.ensures)) (omega (arith, c.side.ensures))) marked),
+      is.sides ∙ c.side.ensures.side,
+      λ r q hr hq marked. absurd (both_ways _ (is.places r q (omega (arith, c.side.ensures.side)) (omega (arith, c.side.ensures.side))) marked),
       λ r q hr hq p.
           absurd
           (none_passed c.args.wounds.now c.into_iter-stretch-iterator.result (ap (λ t. t.row) reader ∙ stands.row) (ap (λ t. t.column) reader ∙ stands.column) r q p),

@@ -8,4 +8,6 @@ use Rattle.plate.proofs.laws.outcomes_pin.Goals as goal
 pub returns : goal.returns
 returns g c =
     let k = members g.C.PartialEq.eq g.C.Kind.byte_of g.C.Kind.cell_of in
-    record { ends = outcomes_pin k; answers = answers_pin k; beats = beats_pin k; faults = faults_pin }
+    let shadows = c.marks_pin.ensures in
+    let ends = outcomes_pin shadows.pin shadows.sides k in
+    record { ends = ends; answers = answers_pin k; beats = beats_pin k ends; faults = faults_pin }

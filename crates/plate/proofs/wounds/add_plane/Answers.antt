@@ -14,7 +14,7 @@ loop-row-preserved g c =
     let before = c.loop-row.invariant.0 in
     let looked = c.loop-row.invariant.1 in
     let same = before.side in
-    let long = c.side-side.ensures in
+    let long = c.side-side.ensures.side in
     let hr : row < side = omega (arith, long, c.loop-row-test.true) in
     elim c.if-not-are_all.branch [
       | then-not-are_all+in_ok-room w ↦

@@ -15,7 +15,7 @@ loop-column-preserved g c =
     let few = c.loop-column.invariant.1 in
     let looked = c.loop-column.invariant.2 in
     let hr : row < s.side = omega (arith, before.side, c.requires.row) in
-    let hc : column < s.side = omega (arith, c.side-column-end.ensures, c.loop-column-test.true, before.side) in
+    let hc : column < s.side = omega (arith, c.side-column-end.ensures.side, c.loop-column-test.true, before.side) in
     elim c.if-ne.branch [
       | then-ne+then-not-is_wound w ↦
           let t = w.add.new.self in

@@ -4,5 +4,4 @@ use Rattle.reports.proofs.laws.session_heals.Goals as goal
 
 pub returns : goal.returns
 returns g c =
-    let met = g.met.C.Kind in
-    session_heals (members g.C.PartialEq.eq g.C.Kind.byte_of g.C.Kind.cell_of) met.reflexive met.exact
+    session_heals (members g.C.PartialEq.eq g.C.Kind.byte_of g.C.Kind.cell_of) c.always_heals.ensures

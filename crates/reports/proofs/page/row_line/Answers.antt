@@ -1,4 +1,5 @@
 use Rattle.std.proofs.Common.{◌≡◌, [], get_or, ap, ◌∙◌, arith}
+use Rattle.toom.specs.Shadow.{side_of_shadow}
 use Rattle.reports.proofs.Lines.{line_written}
 use Rattle.reports.proofs.Rows.{marks_below, mark_fits, mark_more}
 use Rattle.reports.proofs.Texts.{appends_as, appends_none}
@@ -21,6 +22,6 @@ pub returns : goal.returns
 returns c =
     let a = c.args.text.now in
     let row = marks_below c.args.hurts.now c.args.shadow.now c.args.row in
-    let last : c.loop-column.column ≡ c.args.shadow.now.side = omega (arith, c.requires.map) in
-    line_written a [] (row c.args.shadow.now.side) c.requires.room (appends_none a) (appends_as (ap row last) c.loop-column.invariant)
+    let last : c.loop-column.column ≡ side_of_shadow c.args.shadow.now = omega (arith, c.requires.map) in
+    line_written a [] (row (side_of_shadow c.args.shadow.now)) c.requires.room (appends_none a) (appends_as (ap row last) c.loop-column.invariant)
     c.end_line.ensures

@@ -1,5 +1,5 @@
-use Rattle.std.proofs.Common.{◌≡◌, length, Some, sym, ◌∙◌, arith, rules}
-use Rattle.plate.specs.Board.{standing}
+use Rattle.std.proofs.Common.{◌≡◌, ◌≤◌, length, Some, sym, ◌∙◌, arith, rules}
+use Rattle.plate.specs.Board.{side_of, standing}
 use Rattle.plate.specs.Faults.{map_fault}
 use Rattle.plate.specs.Plates.{board, members}
 use Rattle.reports.proofs.Reporting.{reports, whole_fits}
@@ -12,7 +12,8 @@ returns-in_err-map g c =
     let l = c.in_ok-laid.laid in
     let b = board c.args.plate.now in
     let stands : standing b ≡ Some l = ◌∙◌ {c = Some l} (sym c.standing.ensures) c.in_ok-laid.ensures.ok_part in
-    absurd (map_accepted k b l stands 4096 (map_fault c.in_err-map.field-0.0) (omega arith) c.in_err-map.ensures.outcome.0)
+    let narrow : side_of l ≤ 64 = omega (arith, c.side-side.ensures.side, c.side-side.ensures.sized.1) in
+    absurd (map_accepted k b l stands narrow 4096 (map_fault c.in_err-map.field-0.0) (omega arith) c.in_err-map.ensures.outcome.0)
 
 pub returns-in_err-reading : goal.returns-in_err-reading
 returns-in_err-reading g c =
@@ -20,7 +21,8 @@ returns-in_err-reading g c =
     let l = c.in_ok-laid.laid in
     let b = board c.args.plate.now in
     let stands : standing b ≡ Some l = ◌∙◌ {c = Some l} (sym c.standing.ensures) c.in_ok-laid.ensures.ok_part in
-    absurd (read_accepted k b l stands c.in_err-reading.field-0.0 c.in_err-reading.ensures)
+    let narrow : side_of l ≤ 64 = omega (arith, c.side-side.ensures.side, c.side-side.ensures.sized.1) in
+    absurd (read_accepted k b l stands narrow c.in_err-reading.field-0.0 c.in_err-reading.ensures)
 
 pub page-requires : goal.page-requires
 page-requires g c =
@@ -28,11 +30,12 @@ page-requires g c =
     let l = c.in_ok-laid.laid in
     let b = board c.args.plate.now in
     let stands : standing b ≡ Some l = ◌∙◌ {c = Some l} (sym c.standing.ensures) c.in_ok-laid.ensures.ok_part in
+    let narrow : side_of l ≤ 64 = omega (arith, c.side-side.ensures.side, c.side-side.ensures.sized.1) in
     let maps = c.in_ok-map.ensures.outcome.1.0 in
-    let sides = c.side-side.ensures in
-    let told = told k b l stands maps c.side-side.result sides _ c.in_ok-reading.ensures in record {
-      map = map_long k b l stands maps c.side-side.result sides (omega arith);
-      room = whole_fits k b l stands _ told c.args.out.now c.new-text.result c.new-text.ensures.len c.new-text.ensures.bytes (omega arith);
+    let sides = c.side-side.ensures.side in
+    let told = told k b l stands narrow maps c.side-side.result sides _ c.in_ok-reading.ensures in record {
+      map = map_long k b l stands narrow maps c.side-side.result sides (omega arith);
+      room = whole_fits k b l stands _ told c.args.out.now c.new-text.result c.new-text.ensures.len c.new-text.ensures.bytes narrow (omega arith);
     }
 
 pub returns : goal.returns
@@ -41,10 +44,11 @@ returns g c =
     let l = c.in_ok-laid.laid in
     let b = board c.args.plate.now in
     let stands : standing b ≡ Some l = ◌∙◌ {c = Some l} (sym c.standing.ensures) c.in_ok-laid.ensures.ok_part in
+    let narrow : side_of l ≤ 64 = omega (arith, c.side-side.ensures.side, c.side-side.ensures.sized.1) in
     let maps = c.in_ok-map.ensures.outcome.1.0 in
-    let sides = c.side-side.ensures in
-    let told = told k b l stands maps c.side-side.result sides _ c.in_ok-reading.ensures in (
-      report_asked k b l stands (length c.args.out.now) (omega arith),
+    let sides = c.side-side.ensures.side in
+    let told = told k b l stands narrow maps c.side-side.result sides _ c.in_ok-reading.ensures in (
+      report_asked k b l stands narrow (length c.args.out.now) (omega arith),
       reports k b l stands _ told c.args.out.now c.new-text.result c.new-text.ensures.len c.new-text.ensures.bytes c.page.ensures
           c.len.ensures (search rules),
     )

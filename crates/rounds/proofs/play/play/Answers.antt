@@ -19,7 +19,6 @@ perform-requires g c =
 pub returns : goal.returns
 returns g c =
     let k = members g.C.PartialEq.eq g.C.Kind.byte_of g.C.Kind.cell_of in
-    let met = g.met.C.Kind in
     let e = entrant g.H.Entry.kind g.H.Entry.questions g.H.Entry.is_in g.H.Host.meaning in
     let admitted = c.in_ok-round.ensures in
     record {
@@ -27,6 +26,6 @@ returns g c =
           performed k e c.args.file.now c.args.memory.now c.perform.new.memory c.args.out.now c.perform.new.out c.perform.result
           c.in_ok-round.round c.in_ok-round.host admitted.0 admitted.1 admitted.2 c.perform.ensures;
       heals =
-          play_heals k e c.args.file.now c.args.memory.now c.perform.new.memory c.args.out.now c.perform.new.out met.reflexive
-          met.exact c.perform.result;
+          play_heals k e c.args.file.now c.args.memory.now c.perform.new.memory c.args.out.now c.perform.new.out
+          c.always_heals.ensures c.perform.result;
     }

@@ -7,7 +7,6 @@ use Rattle.runs.proofs.run.run.Goals as goal
 pub returns : goal.returns
 returns g c =
     let k = members g.C.PartialEq.eq g.C.Kind.byte_of g.C.Kind.cell_of in
-    let met = g.met.C.Kind in
     let b = board c.args.plate.now in
     let script = c.args.script.now in
     let beats = c.args.beats in
@@ -15,7 +14,7 @@ returns g c =
     record {
       outcome = o;
       heals =
-          goes_on_by k met.reflexive met.exact run_fault (run_questions k.named b beats script)
+          goes_on_by k c.always_heals.ensures run_fault (run_questions k.named b beats script)
           (calls_of_run (g.H.Host.meaning c.args.host.now) script beats) c.try_run.result b (board c.try_run.new.plate) o;
       same = c.try_run.ensures.same;
     }

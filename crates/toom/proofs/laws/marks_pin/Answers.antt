@@ -2,4 +2,4 @@ use Rattle.toom.proofs.Shadows.{marks_pin}
 use Rattle.toom.proofs.laws.marks_pin.Goals as goal
 
 pub returns : goal.returns
-returns c = marks_pin
+returns c = record { pin = marks_pin; sides = λ s. s.sized }

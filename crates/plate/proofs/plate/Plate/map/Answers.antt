@@ -7,9 +7,8 @@ use Rattle.plate.proofs.plate.Plate.map.Goals as goal
 pub returns : goal.returns
 returns g c =
     let k = members g.C.PartialEq.eq g.C.Kind.byte_of g.C.Kind.cell_of in
-    let met = g.met.C.Kind in
     let o = c.try_map.ensures in
     record {
       outcome = o;
-      heals = goes_on k met.reflexive met.exact map_fault (Map c.args.out.now c.try_map.new.out) c.try_map.result (board c.args.self.now) (board c.args.self.now) o;
+      heals = goes_on k c.always_heals.ensures map_fault (Map c.args.out.now c.try_map.new.out) c.try_map.result (board c.args.self.now) (board c.args.self.now) o;
     }

@@ -14,7 +14,7 @@ returns g c =
     let stood = stands b c.standing.result l c.standing.ensures c.in_ok-laid.ensures.ok_part in
     let checked = c.in_ok-cell.ensures in
     let good : place_questions k l.planes (side_of l) c.args.strike.plane c.args.strike.row c.args.strike.column c.args.strike.byte ≡ None =
-    subst (λ x. place_questions k l.planes x c.args.strike.plane c.args.strike.row c.args.strike.column c.args.strike.byte ≡ None) c.side-side.ensures checked.0 in
+    subst (λ x. place_questions k l.planes x c.args.strike.plane c.args.strike.row c.args.strike.column c.args.strike.byte ≡ None) c.side-side.ensures.side checked.0 in
     record {
       outcome = (
         ap (λ o. strike_questions_of k o c.args.strike.plane c.args.strike.row c.args.strike.column c.args.strike.byte) stood ∙ good,
@@ -28,7 +28,7 @@ returns g c =
           planes = refl;
           age = refl;
           shadow = c.in_ok-add.ensures.1;
-          cells = c.put.ensures ∙ ap (λ x. set b.cells (copy_at x c.args.strike.plane c.args.strike.row c.args.strike.column) c.in_ok-cell.cell) c.side-side.ensures;
+          cells = c.put.ensures ∙ ap (λ x. set b.cells (copy_at x c.args.strike.plane c.args.strike.row c.args.strike.column) c.in_ok-cell.cell) c.side-side.ensures.side;
         },
       );
       same = refl;
