@@ -30,7 +30,6 @@ import tempfile
 HERE = os.path.dirname(os.path.realpath(__file__))
 COMPILE = ["gcc", "-O3", "-march=x86-64-v2"]  # the processor that `round` is built for
 LONGEST = 65535
-MOST_RECORDS = 8000
 SCATTERED = 6000
 MOST_BEATS = 1048575
 DENSE_BEATS = 20000  # those that the dense mode plays of a long round
@@ -38,13 +37,13 @@ STAY, LEFT, RIGHT = 0, 1, 2
 
 # Sides and planes, all of 16,384 copies.
 SHAPES = ((64, 4), (8, 256), (2, 4096))
-BEATS = {"bits": 20000, "machine": 8000}
+BEATS = {"bits": 16000, "machine": 8000}
 
 # Where beats by the wounds and dense ones cross.
 CROSSING_SHAPES = ((64, 4), (64, 1), (32, 16), (16, 64), (8, 256), (2, 4096))
 LINES = ("row", "column", "antidiagonal")
 GAPS = (2, 4, 8, 12, 16, 20, 40, 100)
-LOOKED = (8, 12, 16, 20)  # the gaps by which the price of a span is reckoned
+LOOK, PLANE, LONGEST_SPAN = 2, 35, 8192  # of crates/plate/src, as --start
 LONGEST_HOST = 481
 SECONDS = 0.15  # of dense beats in one play
 TRIAL = 4000  # the beats by which that number of beats is found
@@ -85,11 +84,10 @@ def record(number, plane, row, column, byte):
     return fields(number, (plane, 12), (row, 6), (column, 6), (byte, 8), (0, 12)).to_bytes(8, "big")
 
 
-def script(rng, kind, side, planes, beats, room, most=MOST_RECORDS):
-    """As many strikes as fit, at beats, planes and places that are drawn, with a byte that is drawn."""
-    count = min(most, room // 8)
+def script(rng, kind, side, planes, numbers):
+    """A strike after each of these numbers of beats, with a plane, a place and a byte that are drawn."""
     out = []
-    for number in sorted(rng.randrange(beats + 1) for _ in range(count)):
+    for number in numbers:
         byte = rng.randrange(2 if kind == "bits" else 256)
         out.append(record(number, rng.randrange(planes), rng.randrange(side), rng.randrange(side), byte))
     return out
@@ -107,7 +105,7 @@ def round_file(kind, side, planes, is_struck):
     host = rule_110() if kind == "bits" else marching_machine(rng)
     cells = tape(rng, kind, planes)
     room = LONGEST - 9 - len(host) - planes
-    records = script(rng, kind, side, planes, beats, room) if is_struck else []
+    records = script(rng, kind, side, planes, range(0, beats, 2)[:room // 8]) if is_struck else []
     return file_of(kind, side, planes, beats, host, cells, records), len(records)
 
 
@@ -130,7 +128,8 @@ def long_files(kind, side, planes, what):
     cells = tape(rng, kind, planes)
     records = []
     if what == "scattered":
-        records = script(rng, kind, side, planes, MOST_BEATS, LONGEST - 9 - len(host) - planes, SCATTERED)
+        count = min(SCATTERED, (LONGEST - 9 - len(host) - planes) // 8)
+        records = script(rng, kind, side, planes, sorted(rng.randrange(MOST_BEATS + 1) for _ in range(count)))
     elif what != "none":
         records = [record(0, 0, *LONG[what](side, k), cells[0] ^ 1) for k in range(side)]
     early = [it for it in records if int.from_bytes(it, "big") >> 44 <= DENSE_BEATS]
@@ -270,15 +269,17 @@ def beat_times(program, path, cases, repeat):
     return [(full - bare) * 1e9 / ((strikes + 1) * gap) for (full, bare), (*_, strikes, gap) in zip(least, cases)]
 
 
-def bound(shape, start):
+def few(shape, start, beats=LONGEST_SPAN):
+    """So many wounds are few for so many beats at once, or None where `round` looks for none: `most_wounds` of crates/plate/src/wounds.rt."""
     _, side, planes = shape
-    return planes * side * side // (planes + start)
+    left = planes * side * side - (LOOK * planes * side * side + PLANE * planes) // beats
+    return left // (planes + start) if left >= 0 else None
 
 
 def dense_lines(shape, start):
     """So many lines that their places are above the bound; where that can be, one less than all, so that antidiagonals move."""
     side = shape[1]
-    return side - 1 if (side - 1) * side > bound(shape, start) else side
+    return side - 1 if (side - 1) * side > few(shape, start) else side
 
 
 def dense_beats(program, path, shape, start):
@@ -289,7 +290,7 @@ def dense_beats(program, path, shape, start):
 
 def few_lines(shape, start):
     """Numbers of lines whose places are not above the bound: one, about half as many as can be, and as many as can be."""
-    most = bound(shape, start) // shape[1]
+    most = few(shape, start) // shape[1]
     return sorted({1, (most + 1) // 2, most}) if most else []
 
 
@@ -301,7 +302,7 @@ def line_cases(shape, what, beats, start):
 
 def span_rows(shape, start):
     """Numbers of rows: none, one, as many as are not above the bound, and half of all, or just above the bound if half is not."""
-    side, most = shape[1], bound(shape, start) // shape[1]
+    side, most = shape[1], few(shape, start) // shape[1]
     return sorted({0, 1, most, max(side // 2, most + 1)})
 
 
@@ -350,7 +351,7 @@ def put_lines(shape, what, start, times):
         cells = wound * copies / dense
         said = [", ".join(f"{wounds}: {it:.0f}" for wounds, it in points[1:]), f"{wound:.1f}", f"{cells:.0f}",
                 f"{cells - planes:.0f}", f"{even:.0f}"]
-    put_row(*shape, what, f"{dense:.0f}", f"{none:.0f}", *said, bound(shape, start))
+    put_row(*shape, what, f"{dense:.0f}", f"{none:.0f}", *said, few(shape, start))
 
 
 def put_spans(shape, start, times):
@@ -360,9 +361,10 @@ def put_spans(shape, start, times):
     for at, lines in enumerate(span_rows(shape, start)):
         *spans, none = (it / dense for it in times[at * each:(at + 1) * each])
         wounds = lines * shape[1]
-        price = statistics.median(gap * (it - none) for gap, it in zip(GAPS, spans) if gap in LOOKED)
-        even = f"{price / (1 - none):.1f}" if wounds <= bound(shape, start) and none < 1 else "-"
-        put_row(*shape, wounds, *(f"{it:.2f}" for it in spans), f"{none:.3f}", f"{price:.2f}", even)
+        looked = [few(shape, start, gap) for gap in GAPS]
+        prices = [gap * (it - none) for gap, it, most in zip(GAPS, spans, looked) if most is not None and wounds <= most]
+        price = f"{statistics.median(prices):.1f}" if prices else "-"
+        put_row(*shape, wounds, *(f"{it:.2f}" for it in spans), f"{none:.3f}", price)
 
 
 def crossing_plan(program, path, asked):
@@ -386,10 +388,10 @@ def crossing_tables(program, path, asked):
         if what != "spans":
             put_lines(shape, what, asked.start, it)
     print()
-    print("A beat with a strike after every 2, 4 and so on, in dense beats. A span is the beats from one strike to the next. Its")
-    print("price is what it takes beside its beats.")
+    print("A beat with a strike after every 2, 4 and so on, in dense beats. A span is the beats from one strike to the next. The")
+    print("price of one by the wounds is what it takes beside its beats.")
     print()
-    put_head("cells", "side", "n", "wounds", *GAPS, "no strikes", "price", "even at")
+    put_head("cells", "side", "n", "wounds", *GAPS, "no strikes", "price")
     for shape, what, it in rows:
         if what == "spans":
             put_spans(shape, asked.start, it)
