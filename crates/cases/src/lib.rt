@@ -4,6 +4,8 @@
 #[cfg(test)]
 mod elementary;
 #[cfg(test)]
+mod first_plate;
+#[cfg(test)]
 mod kinds;
 #[cfg(test)]
 mod machine_files;
