@@ -1,10 +1,9 @@
 -- A thinning, vote by vote.
 use Rattle.std.proofs.Common.{◌≡◌, ℕ, ◌+◌, ◌*◌, ◌<◌, ◌≤◌, Bool, false, List, [], ◌++◌, sym, refl, ap, ◌∙◌, subst, ap₂, inl, inr, add-one, arith, below_more}
 use Rattle.std.proofs.lemmas.Bool.{cases_lt, false≢true}
-use Rattle.std.specs.Bool.{beq}
-use Rattle.toom.specs.EqualShadows.{equal_shadows_decides}
+use Rattle.std.specs.Bool.{beq, Decides}
 use Rattle.toom.specs.declared.shadow.Shadow.{Shadow}
-use Rattle.toom.specs.Shadow.{marks, side_of_shadow, equal_shadows, IsShadow, MarksPin}
+use Rattle.toom.specs.Shadow.{marks, side_of_shadow, IsShadow, MarksPin}
 use Rattle.toom.specs.ShadowCalls.{Voted}
 use Rattle.toom.specs.Torus.{Plane, SameCounts, SameOnTorus}
 use Rattle.toom.specs.Vote.{SameVotes, thinned, thinned_by}
@@ -21,8 +20,8 @@ moved s t pin voted other stays =
     other (pin t s (side_of_shadow s) (thinned (side_of_shadow s) (marks s)) voted (record { sides = refl; places = λ r c h k. sym (stays r c h k) }))
 
 -- Shadows that do not compare as equal are not equal.
-pub unlike : (s t : Shadow) → false ≡ equal_shadows s t → s ≡ t → ⊥
-unlike s t differ e = false≢true (differ ∙ (equal_shadows_decides s t).1 e)
+pub unlike : {same : Bool} {s t : Shadow} → Decides same (s ≡ t) → same ≡ false → s ≡ t → ⊥
+unlike decides differ e = false≢true (sym differ ∙ decides.1 e)
 
 module _ {side : ℕ} {plane : Plane Bool} {votes : ℕ} where
   pub goes_on : (NoMarks side plane → ⊥) → (Stays side plane → ⊥) → (votes ≡ side * side → ⊥) → GoesOn side plane votes

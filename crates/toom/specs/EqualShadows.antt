@@ -36,6 +36,6 @@ equal_shadows_decides s t =
       λ e. both_true (eq-eqb _ _ (ap (λ x. x.side) e)) (rows.1 (ap (λ x. x.rows) e)),
     )
 
--- What a `==` of shadows owes that is written by hand, as the derived one is not.
+-- What the `==` of shadows owes, since it is written by hand.
 pub equal_shadows_laws : IsPartialEquivalence equal_shadows
 equal_shadows_laws = partial_equiv_from_equiv (decided equal_shadows equal_shadows_decides)

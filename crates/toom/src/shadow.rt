@@ -13,7 +13,7 @@ pub const MAX_SIDE: usize = 64;
 
 // A row begins with column 0 at its highest bit. The bits past the side, and the rows past it, are zero: so a shadow is its side and its marked
 // places, and nothing else. The rows are an array of the largest size, since nothing here allocates.
-#[derive(Clone, Copy, PartialEq, Eq)]
+#[derive(Clone, Copy, Eq)]
 pub struct Shadow {
     side: usize,
     rows: [u64; MAX_SIDE],

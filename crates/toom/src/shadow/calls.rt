@@ -1,6 +1,7 @@
 // The calls on a shadow: make it empty, add a place, ask one, vote it whole, count its places, ask whether there are any, write its rows.
-ghost use Rattle.std.specs.Prelude.{◌≡◌, ◌↔◌, IsTrue, false};
-ghost use Rattle.toom.specs.Shadow.{marks, side_of_shadow};
+ghost use Rattle.std.specs.Prelude.{◌≡◌, ◌↔◌, Decides, IsTrue, false};
+ghost use Rattle.toom.specs.EqualShadows.{equal_shadows_laws};
+ghost use Rattle.toom.specs.Shadow.{marks, side_of_shadow, equal_shadows};
 ghost use Rattle.toom.specs.ShadowCalls.{Emptied, Asked, Added, Voted, Written};
 ghost use Rattle.toom.specs.Torus.{Everywhere, Side, count_marks};
 
@@ -88,5 +89,23 @@ impl Shadow {
         }
         out[0..side].copy_from_slice(&self.rows[0..side]);
         Ok(())
+    }
+}
+
+// By hand, since the derived one does not say that it decides equality.
+impl PartialEq for Shadow {
+    ghost eq = { equal_shadows };
+
+    ghost laws = { equal_shadows_laws };
+
+    // Two shadows are the same exactly where they are equal.
+    fn eq(&self, other: &Shadow) -> bool
+        ensures value { result ≡ equal_shadows self.now other.now }
+        ensures decides { Decides result (self.now ≡ other.now) }
+    {
+        if self.side != other.side {
+            return false;
+        }
+        self.rows == other.rows
     }
 }

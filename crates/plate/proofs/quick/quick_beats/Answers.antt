@@ -1,5 +1,4 @@
-use Rattle.std.proofs.Common.{◌≡◌, ◌+◌, ◌-◌, sym, ap, ◌∙◌, subst, suc, arith}
-use Rattle.toom.specs.EqualShadows.{equal_shadows_decides}
+use Rattle.std.proofs.Common.{◌≡◌, ◌+◌, ◌-◌, ap, ◌∙◌, subst, suc, arith}
 use Rattle.toom.specs.Shadow.{marks}
 use Rattle.plate.specs.BeatsCall.{CellsBeatenBy}
 use Rattle.plate.specs.Wounds.{BeatenTo}
@@ -23,7 +22,7 @@ pub resting_beats-requires : goal.resting_beats-requires
 resting_beats-requires g c =
     let side = c.args.shape.side in
     let w = c.loop-left.wounds in
-    let same = (equal_shadows_decides c.vote.new.self w).0 (sym c.eq.ensures ∙ c.if-eq.true) in
+    let same = c.eq.ensures.decides.0 c.if-eq.true in
     record {
       cells = omega arith;
       side = c.loop-left.invariant.1;

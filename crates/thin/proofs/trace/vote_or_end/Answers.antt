@@ -8,7 +8,7 @@ returns-then-votes-side c = record {
   cases = (
     c.if-votes-side.true ∙ ap₂ ◌*◌ c.side.ensures.side c.side-else-eq.ensures.side,
     λ none. c.if-count-eq0.false (c.count.ensures ∙ none),
-    moved c.args.shadow.now c.vote.new.self c.marks_pin.ensures.pin c.vote.ensures (unlike c.vote.new.self c.args.shadow.now c.if-eq.ensures),
+    moved c.args.shadow.now c.vote.new.self c.marks_pin.ensures.pin c.vote.ensures (unlike c.eq.ensures.decides c.if-eq.false),
   );
 }
 
@@ -17,6 +17,6 @@ returns-else-votes-side c = record {
   after = c.vote.ensures;
   cases = goes_on
       (λ none. c.if-count-eq0.false (c.count.ensures ∙ none))
-      (moved c.args.shadow.now c.vote.new.self c.marks_pin.ensures.pin c.vote.ensures (unlike c.vote.new.self c.args.shadow.now c.if-eq.ensures))
+      (moved c.args.shadow.now c.vote.new.self c.marks_pin.ensures.pin c.vote.ensures (unlike c.eq.ensures.decides c.if-eq.false))
       (λ e. c.if-votes-side.false (e ∙ sym (ap₂ ◌*◌ c.side.ensures.side c.side-else-eq.ensures.side)));
 }
