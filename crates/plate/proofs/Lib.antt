@@ -40,6 +40,7 @@ pub mod SweptBeats
 pub mod SweptEdges
 pub mod SweptPlaces
 pub mod SweptRings
+pub mod SweptSquares
 pub mod Totals
 pub mod WoundBeats
 pub mod WoundLooks

@@ -12,6 +12,11 @@ pub(crate) fn paint<C: Kind>(cells: &mut [C], from: usize, count: usize, cell: C
     requires { from + count ≤ length cells.old }
     ensures { Painted from count cell cells.old cells.new }
 {
+    // A line is painted cell by cell, for each of which the loop below would call the system's `memset`.
+    if count == 1 {
+        cells[from] = cell;
+        return;
+    }
     // A `fill` asks for a clone that cannot fail, which not every kind promises.
     for place in cells[from..from + count].iter_mut() {
         *place = cell;

@@ -27,7 +27,12 @@ fn candidate<C: Kind>(plane: &[C], first: C) -> C
 fn count_same<C: Kind>(plane: &[C], cell: C) -> usize
     ensures { result ≡ holders C.eq cell plane.now }
 {
-    plane.iter().filter(|x| **x == cell).count()
+    // A loop, without a branch on the data: `filter` and `count` branch at each cell, and of a `sum` it would be left to prove that it fits.
+    let mut count = 0;
+    for x in plane {
+        count += usize::from(*x == cell);
+    }
+    count
 }
 
 pub fn majority<C: Kind>(plane: &[C]) -> Option<C>

@@ -19,6 +19,9 @@ const FIRST_SPAN: u32 = 8;
 
 const LAST_SPAN: u32 = 1024;
 
+// To look for wounds takes longer than so few beats of all cells.
+const FEW: u32 = 2;
+
 // Beats of all cells, one after another.
 fn dense_beats<C: Kind, H: Host<C>>(host: &H, cells: &mut [C], shape: Shape, times: u32)
     requires { size_of shape.planes shape.side ≤ length cells.old }
@@ -76,6 +79,10 @@ pub(crate) fn many_beats<C: Kind, H: Host<C>>(host: &H, cells: &mut [C], shape: 
     ensures { CellsBeatenBy C.eq (H.meaning host.now) shape.planes shape.side times
         cells.old cells.new }
 {
+    if times <= FEW {
+        dense_beats(host, cells, shape, times);
+        return;
+    }
     let mut left = times;
     let mut span = FIRST_SPAN;
     while left > 0 {

@@ -177,12 +177,38 @@ fn vote_edges<C: Kind>(cells: &mut [C], shape: Shape)
     }
 }
 
+// Votes the planes of side 2. Each cell is read once, before the votes of its plane are written. Where a place is voted by itself, LLVM makes of the
+// choice a branch on the cells, and no processor foresees it where they are chaotic.
+fn vote_squares<C: Kind>(cells: &mut [C], planes: usize)
+    requires { 2 * (planes * (2 * 2)) ≤ length cells.old }
+    ensures { Swept (planes * (2 * 2)) (planes * (2 * 2)) (PlanesVotes C.eq planes 2 cells.old) cells.old cells.new }
+{
+    let votes = 4 * planes;
+    for i in 0..planes {
+        let at = 4 * i;
+        // Row 0 has a and b, row 1 c and d. North of a row is the other row, east of a column the other column.
+        let a = cell_at(cells, at);
+        let b = cell_at(cells, at + 1);
+        let c = cell_at(cells, at + 2);
+        let d = cell_at(cells, at + 3);
+        let to = votes + at;
+        put(cells, to, vote(c, b, a));
+        put(cells, to + 1, vote(d, a, b));
+        put(cells, to + 2, vote(a, d, c));
+        put(cells, to + 3, vote(b, c, d));
+    }
+}
+
 // Votes the planes into the part of the memory after them. One sweep over all of them takes least time. Its north is wrong in the last rows, and
 // its east in the last columns: so these are voted again.
 fn vote_planes<C: Kind>(cells: &mut [C], shape: Shape)
     requires { 2 * (shape.planes * (shape.side * shape.side)) ≤ length cells.old }
     ensures { Swept (shape.planes * (shape.side * shape.side)) (shape.planes * (shape.side * shape.side)) (PlanesVotes C.eq shape.planes shape.side cells.old) cells.old cells.new }
 {
+    if shape.side == 2 {
+        vote_squares(cells, shape.planes);
+        return;
+    }
     let votes = shape.copies();
     fill(&Ballot, cells, votes, shape.side, 1, 0, votes - shape.side);
     vote_edges(cells, shape);

@@ -28,6 +28,12 @@ const PLANE: usize = 35;
 // machine cells, and of wounds side by side that rest, it is a small part of that.
 const START: usize = 124;
 
+// In a memory of more copies than NEAR the copies of a strand are far apart, and each is fetched before the first beat and brought back after the
+// last: that takes as long as one cell of such a beat for each NEAR copies that there are, up to FAR of them.
+const NEAR: usize = 65536;
+
+const FAR: usize = 64;
+
 // With more wounds than this, so many beats of all cells take less time; none where they do so even without a wound.
 pub(crate) fn most_wounds(shape: Shape, times: u32) -> Option<usize>
     requires { 1 ≤ times }
@@ -35,7 +41,8 @@ pub(crate) fn most_wounds(shape: Shape, times: u32) -> Option<usize>
     let copies = shape.copies();
     let price = LOOK * copies + PLANE * shape.planes;
     let left = copies.checked_sub(price / times as usize)?;
-    Some(left / (shape.planes + START))
+    let fetched = shape.planes * (copies / NEAR).min(FAR);
+    Some(left / (shape.planes + START + fetched / times as usize))
 }
 
 // Whether all cells are this one. It reads them all, for then many are compared at once.
