@@ -1,7 +1,9 @@
 // The run: the strikes of a script among the beats of one host. `same` says that the plate's memory is still the one that was lent: of a plate
 // before and after, so that no field of it could say it. Host, script and beats are the caller's, and are handed on as they came.
-ghost use Rattle.std.specs.Prelude.{◌≡◌, None, MatchResult};
-ghost use Rattle.plate.specs.Leads.{Leads};
+ghost use Rattle.std.specs.Prelude.{◌≡◌, None, Some, MatchResult};
+ghost use Rattle.plate.specs.BeatsCall.{beats_questions};
+ghost use Rattle.plate.specs.Faults.{beat_fault};
+ghost use Rattle.plate.specs.Leads.{Leads, beats_alone};
 ghost use Rattle.plate.specs.Plates.{board, members};
 ghost use Rattle.runs.specs.RunCall.{calls_of_run, run_questions};
 ghost use Rattle.runs.specs.Runs.{RunAnswers, RunGoesOn};
@@ -10,9 +12,27 @@ use crate::checks::check_run;
 use crate::fault::RunFault;
 use crate::script::Script;
 use hosts::host::Host;
+use plate::fault::BeatFault;
 use plate::laws::always_heals;
 use plate::plate::Plate;
 use toom::kind::Kind;
+
+// The beats before a strike: none where it comes at once after another, and then nothing is asked, since of a script's strikes many may do so.
+fn beat_on<C: Kind, H: Host<C>>(
+    plate: &mut Plate<'_, C>,
+    host: &H,
+    times: u32,
+) -> Result<(), BeatFault>
+    ensures outcome { MatchResult result
+        (λ _. Leads (members C.eq C.byte_of C.cell_of) (beats_alone (H.meaning host.now) times) (board plate.old) (board plate.new))
+        (λ e. beats_questions (board plate.old) times ≡ Some (beat_fault e)) }
+    ensures same { plate.new.cells.ghost_name ≡ plate.old.cells.ghost_name }
+{
+    if times == 0 {
+        return Ok(());
+    }
+    plate.beats(host, times)
+}
 
 // The strikes and beats of a run whose questions have been asked.
 fn play<C: Kind, H: Host<C>>(
@@ -27,7 +47,7 @@ fn play<C: Kind, H: Host<C>>(
 {
     let mut done = 0;
     for (index, record) in Script::new(script).enumerate() {
-        plate.beats(host, record.number - done)?;
+        beat_on(plate, host, record.number - done)?;
         done = record.number;
         plate
             .strike(record.strike)

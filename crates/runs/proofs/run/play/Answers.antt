@@ -19,31 +19,31 @@ pub loop-index-preserved : goal.loop-index-preserved
 loop-index-preserved g c = record {
   underway =
       underway_next c.loop-index.invariant.underway c.next.new.self c.in-Some.index c.in-Some.record c.in-Some.ensures.steps
-      (board c.beats.new.self) (board c.strike.new.self) c.in_ok-beats.ensures.outcome.1
+      (board c.beat_on.new.plate) (board c.strike.new.self) c.in_ok-beat_on.ensures.outcome
       c.strike.result c.strike.ensures.outcome;
-  same = c.strike.ensures.same ∙ c.beats.ensures.same ∙ c.loop-index.invariant.same;
+  same = c.strike.ensures.same ∙ c.beat_on.ensures.same ∙ c.loop-index.invariant.same;
 }
 
 pub returns-in_err-map_err-clause-outcome : goal.returns-in_err-map_err-clause-outcome
 returns-in_err-map_err-clause-outcome g c =
     absurd
     (strike_unrefused c.loop-index.invariant.underway c.next.new.self c.in-Some.index c.in-Some.record c.in-Some.ensures.steps
-    (board c.beats.new.self) (board c.strike.new.self) c.in_ok-beats.ensures.outcome.1
+    (board c.beat_on.new.plate) (board c.strike.new.self) c.in_ok-beat_on.ensures.outcome
     c.strike.result c.strike.ensures.outcome c.in_err-map_err.ensures.variant)
 
 pub overflow_sub-beats : goal.overflow_sub-beats
 overflow_sub-beats g c = done_upto c.loop-index.invariant.underway
 
-pub returns-in_err-beats-clause-outcome : goal.returns-in_err-beats-clause-outcome
-returns-in_err-beats-clause-outcome g c =
+pub returns-in_err-beat_on-clause-outcome : goal.returns-in_err-beat_on-clause-outcome
+returns-in_err-beat_on-clause-outcome g c =
     absurd
     (beats_unrefused c.loop-index.invariant.underway c.next.new.self c.in-Some.index c.in-Some.record c.in-Some.ensures.steps _
-    c.in_err-beats.ensures.outcome.0)
+    c.in_err-beat_on.ensures.outcome)
 
-pub returns-in_err-beats-2-clause-outcome : goal.returns-in_err-beats-2-clause-outcome
-returns-in_err-beats-2-clause-outcome g c = absurd (rest_unrefused c.loop-index.invariant.underway _ c.in_err-beats-2.ensures.outcome.0)
+pub returns-in_err-beats-clause-outcome : goal.returns-in_err-beats-clause-outcome
+returns-in_err-beats-clause-outcome g c = absurd (rest_unrefused c.loop-index.invariant.underway _ c.in_err-beats.ensures.outcome.0)
 
 pub returns-clause-outcome : goal.returns-clause-outcome
 returns-clause-outcome g c =
-    all_played c.loop-index.invariant.underway c.next.new.self c.in-None.ensures.steps.0 (board c.beats-2.new.self)
-    c.in_ok-beats-2.ensures.outcome.1
+    all_played c.loop-index.invariant.underway c.next.new.self c.in-None.ensures.steps.0 (board c.beats.new.self)
+    c.in_ok-beats.ensures.outcome.1
