@@ -1,6 +1,7 @@
 -- The marks of a row, one column a turn, and the rows of a map, one row a turn.
 use Rattle.std.proofs.Common.{◌≡◌, ℕ, suc, ◌+◌, ◌*◌, ◌<◌, ◌≤◌, Bool, false, List, [], ◌∷◌, map, length, get_or, drop, Some, None, Option, unwrap_or, sym, ap, ◌∙◌, subst, inl, inr, suc-mul, add-one, arith}
 use Rattle.std.proofs.lemmas.Bool.{cases_lt}
+use Rattle.std.proofs.lemmas.List.FromFn.{length-map-range_with_len}
 use Rattle.std.proofs.lemmas.List.{drop_at, drop-drop, get_or-drop, get_or_append_left, length-append, length-drop}
 use Rattle.std.proofs.lemmas.Nat.{mul-le}
 use Rattle.std.specs.Borrow.{Bor}
@@ -23,6 +24,15 @@ use Rattle.reports.proofs.Texts.{appends_as, fits_front}
 asked_marks : (s : Shadow) (row column : ℕ) (o : Option Bool) → Asked s row column o → OnTorus s row column → unwrap_or o false ≡ marks s row column
 asked_marks s row column None off on = absurd (off on)
 asked_marks s row column (Some b) asked on = asked.1
+
+-- A row's line is as long whatever is hurt.
+pub marked_long : (hurts : List ℕ) (s : Shadow) (row : ℕ) → length (marked_line hurts s row) ≡ side_of_shadow s + 1
+marked_long hurts s row =
+    length-append (map (λ c. place_mark (get_or hurts c 0) (marks s row c)) (range_with_len 0 (side_of_shadow s))) line_end
+    ∙ ap (λ n. n + 1) (length-map-range_with_len _ 0 (side_of_shadow s))
+
+pub any_row_fits : (b : Text) (hurts others : List ℕ) (s : Shadow) (row : ℕ) → Fits b (marked_line others s row) → Fits b (marked_line hurts s row)
+any_row_fits b hurts others s row fits = omega (arith, fits, marked_long others s row, marked_long hurts s row)
 
 -- The row's part of the map is `hurts`.
 module _ (hurts : List ℕ) (s : Shadow) (row : ℕ) where
