@@ -1,4 +1,5 @@
 pub mod Answering
+pub mod Elsewhere
 pub mod Filling
 pub mod Pinning
 pub mod Playing

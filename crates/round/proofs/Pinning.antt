@@ -31,7 +31,7 @@ machine_entrant = entrant MachineCells machine_questions MachineIn machine_rule
 abbrev all_bits : Members Bit
 all_bits = members equal_bits byte_of_bit bit_of_byte
 
-oks_same : (n m : ℕ) → ◌≡◌ {A = Result ℕ RefusedFault} (Ok n) (Ok m) → n ≡ m
+pub oks_same : (n m : ℕ) → ◌≡◌ {A = Result ℕ RefusedFault} (Ok n) (Ok m) → n ≡ m
 oks_same n m same = cc
 
 module _ (file : List ℕ) (n n' : ℕ) (out out₁ out₂ : List ℕ) where

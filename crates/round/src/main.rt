@@ -4,6 +4,7 @@
 
 ghost use Rattle.std.specs.Prelude.{◌≡◌, ◌+◌, ◌≤◌, length, take, Some, IfOk, IfSome, OnOk};
 ghost use Rattle.plate.specs.Plates.{members};
+ghost use Rattle.reports.specs.ReportCall.{report_bytes};
 ghost use Rattle.rounds.specs.PlayCall.{entrant};
 ghost use Rattle.rounds.specs.RoundFile.{max_round};
 ghost use Rattle.round.specs.Answer.{Answered, AppendsReply, OneReplyEach, Replied};
@@ -17,7 +18,7 @@ use rounds::file_kind::FileKind;
 use rounds::laws::rounds_pin;
 use rounds::reply::reply;
 use rounds::round::{MAX_ROUND, ROUND_CELLS, kind};
-use std::alloc::Global;
+use std::alloc::{AllocError, Global};
 use std::io::{Read, Write};
 use std::{env, fs};
 use toom::bit::Bit;
@@ -26,6 +27,24 @@ use toom::machine_cell::MachineCell;
 
 // One byte more than the longest round has, so that a longer one is seen to be too long.
 const INPUT_BYTES: usize = MAX_ROUND + 1;
+
+// The input and the output, asked for once and lent to each round.
+#[derive(Drop)]
+struct Buffers {
+    input: Vec<u8>,
+    out: Vec<u8>,
+    ghost input_bytes: { input.len ≡ max_round + 1 },
+    ghost out_bytes: { out.len ≡ report_bytes },
+}
+
+impl Buffers {
+    fn new(heap: Global) -> Result<Buffers, AllocError> {
+        Ok(Buffers {
+            input: vec![in heap; 0u8; INPUT_BYTES]?,
+            out: vec![in heap; 0u8; REPORT_BYTES]?,
+        })
+    }
+}
 
 // Reads until the input ends or the buffer is full. By hand, since `read_to_end` allocates again once its buffer is full, under `take` too, and
 // `read_exact` fails if the input ends before that.
@@ -87,35 +106,41 @@ fn answer(heap: Global, file: &[u8], out: &mut [u8]) -> anyhow::Result<usize>
     }
 }
 
-// Plays the round of one source, and writes the reply.
-fn play_from<R: Read, W: Write>(heap: Global, source: &mut R, sink: &mut W) -> anyhow::Result<()>
+// Plays the round of one source, and writes the reply. What the round before has left in the buffers makes no difference.
+fn play_from<R: Read, W: Write>(
+    heap: Global,
+    buffers: &mut Buffers,
+    source: &mut R,
+    sink: &mut W,
+) -> anyhow::Result<()>
     ensures replies { OnOk result (IfSome (R.remaining source.old) (λ bytes. AppendsReply (take (max_round + 1) bytes) (W.contents sink.old) (W.contents sink.new))) }
 {
-    let mut input = vec![in heap; 0u8; INPUT_BYTES]?;
-    let mut out = vec![in heap; 0u8; REPORT_BYTES]?;
-    let len = fill(source, &mut input)?;
-    let written = answer(heap, &input[..len], &mut out)?;
+    let Buffers { input, out } = buffers;
+    let len = fill(source, input)?;
+    let written = answer(heap, &input[..len], out)?;
     sink.write_all(&out[..written])?;
     Ok(())
 }
 
 // Plays the round of the file of this name, or of standard input for the name `-`.
-fn play_named(rt: &HostRuntime, name: &str) -> anyhow::Result<()> {
+fn play_named(rt: &HostRuntime, buffers: &mut Buffers, name: &str) -> anyhow::Result<()> {
     if name == "-" {
-        play_from(rt.alloc(), &mut rt.stdin(), &mut rt.stdout())
+        play_from(rt.alloc(), buffers, &mut rt.stdin(), &mut rt.stdout())
     } else {
-        play_from(rt.alloc(), &mut fs::open(rt, name)?, &mut rt.stdout())
+        let mut file = fs::open(rt, name)?;
+        play_from(rt.alloc(), buffers, &mut file, &mut rt.stdout())
     }
 }
 
 // With no file named, the round comes from standard input.
 fn run(rt: &HostRuntime) -> anyhow::Result<()> {
+    let mut buffers = Buffers::new(rt.alloc())?;
     let names = env::args(rt)?.skip(1);
     if names.len() == 0 {
-        return play_named(rt, "-");
+        return play_named(rt, &mut buffers, "-");
     }
     for name in names {
-        play_named(rt, &name)?;
+        play_named(rt, &mut buffers, &name)?;
     }
     Ok(())
 }
